@@ -1,0 +1,9 @@
+pub mod Neighbours
+pub mod Invariant
+pub mod Frame
+pub mod OneStep
+pub mod Calm
+pub mod Roles
+pub mod Joins
+pub mod Leaves
+pub mod Moves

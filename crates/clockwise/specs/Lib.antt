@@ -1,0 +1,2 @@
+pub mod Clockwise
+pub mod Laws

@@ -1,0 +1,54 @@
+-- Tables of values, and lists of values as runs of words. Assumes nothing.
+use mathlib.Core.Path.{_≡_, refl, ap, sym, _∙_}
+use mathlib.Core.List.{List, [], _∷_, _++_, append-assoc}
+use Prim.Native.Nat.{ℕ, suc, zero, _+_, _*_, _≤_, _<_}
+use native.Mathlib.Nat.{add-comm, mul-zero, mul-suc}
+use native.Mathlib.Numerals.{add-one}
+use native.Mathlib.Omega.{arith}
+use lib.ListN.{length, take, drop, getD, set, length-append}
+use lib.Seq.{length-take-le, split-at, set-split, getD-at, ext-getD}
+
+-- f 0, f 1, .., n of them
+unfoldable pub table : {A : Type 0} → ℕ → (ℕ → A) → List A
+table zero f = []
+table (suc n) f = table n f ++ (f n ∷ [])
+
+module _ {A : Type 0} where
+  pub length-table : (n : ℕ) (f : ℕ → A) → length (table n f) ≡ n
+  unfolding table
+  length-table zero f = refl
+  length-table (suc n) f = length-append (table n f) (f n ∷ []) ∙ ap (λ k. k + 1) (length-table n f) ∙ add-one n
+
+  -- a list is the table of its elements
+  pub table-of : (l : List A) (d : A) (f : ℕ → A) (n : ℕ) → n ≤ length l → ((i : ℕ) → i < n → f i ≡ getD l i d) → table n f ≡ take n l
+  unfolding table
+  table-of l d f zero h e = refl
+  table-of l d f (suc n) h e =
+      ap (λ z. z ++ (f n ∷ [])) (table-of l d f n (omega arith) (λ i k. e i (omega arith)))
+      ∙ ap (λ z. take n l ++ (z ∷ [])) (e n (omega arith))
+      ∙ sym (lib.Seq.take-suc l n d (omega arith))
+
+module _ {A : Type 0} (f : A → List ℕ) where
+  -- the words of each value, one after the other
+  abbrev pub flat : List A → List ℕ
+  flat [] = []
+  flat (x ∷ xs) = f x ++ flat xs
+
+  pub flat-append : (xs ys : List A) → flat (xs ++ ys) ≡ flat xs ++ flat ys
+  flat-append [] ys = refl
+  flat-append (x ∷ xs) ys = ap (λ l. f x ++ l) (flat-append xs ys) ∙ sym (append-assoc (f x) (flat xs) (flat ys))
+
+  module _ (k : ℕ) (size : (x : A) → length (f x) ≡ k) where
+    pub length-flat : (xs : List A) → length (flat xs) ≡ k * length xs
+    length-flat [] = sym (mul-zero k)
+    length-flat (x ∷ xs) = simp (length-append, size, length-flat xs, mul-suc) (add-comm k (k * length xs))
+
+    pub length-front : (xs : List A) (i : ℕ) → i ≤ length xs → length (flat (take i xs)) ≡ k * i
+    length-front xs i h = length-flat (take i xs) ∙ ap (λ n. k * n) (length-take-le i xs h)
+
+  -- the words before value i, its own, and those after
+  pub flat-split : (xs : List A) (i : ℕ) (d : A) → i < length xs → flat xs ≡ flat (take i xs) ++ (f (getD xs i d) ++ flat (drop (suc i) xs))
+  flat-split xs i d h = ap flat (split-at xs i d h) ∙ flat-append (take i xs) (getD xs i d ∷ drop (suc i) xs)
+
+  pub flat-set : (xs : List A) (i : ℕ) (x : A) → i < length xs → flat (set xs i x) ≡ flat (take i xs) ++ (f x ++ flat (drop (suc i) xs))
+  flat-set xs i x h = ap flat (set-split xs i x h) ∙ flat-append (take i xs) (x ∷ drop (suc i) xs)

@@ -1,0 +1,21 @@
+-- Choice by a test. It stays shut, so that a proof about a choice finds its parts. Assumes nothing.
+use mathlib.Core.Bool.{Bool, true, false, not}
+use lib.Dec.{T}
+
+infixr 5 if_then_else_
+
+unfoldable pub if_then_else_ : {A : Type 0} → Bool → A → A → A
+if true then x else y = x
+if false then x else y = y
+
+-- What holds of a choice: P is a property of the value chosen.
+module _ {A : Type 0} (P : A → Type 0) where
+  pub choose : (b : Bool) (x y : A) → (T b → P x) → (T (not b) → P y) → P (if b then x else y)
+  unfolding if_then_else_
+  choose true x y f g = f tt
+  choose false x y f g = g tt
+
+  pub passes : (b : Bool) (x y : A) → T b → P x → P (if b then x else y)
+  unfolding if_then_else_
+  passes true x y t p = p
+  passes false x y t p = absurd t

@@ -1,0 +1,5 @@
+pub mod Choice
+pub mod Tests
+pub mod Members
+pub mod Search
+pub mod Blocks

@@ -1,0 +1,123 @@
+-- Membership, and counting in lists of numbers. Assumes nothing.
+use mathlib.Core.Path.{_≡_, refl, sym, ap, subst}
+use mathlib.Core.Logic.{_⊎_, inl, inr, _≢_}
+use mathlib.Core.List.{List, [], _∷_, _++_}
+use Prim.Native.Nat.{ℕ, zero, suc, _+_, _≤_, _<_}
+use native.Mathlib.Decide.{ℕ-discrete}
+use native.Mathlib.Omega.{arith}
+use lib.ListN.{length, getD}
+
+module _ {A : Type 0} where
+  abbrev pub Mem : A → List A → Type 0
+  Mem m [] = ⊥
+  Mem m (x ∷ xs) = (m ≡ x) ⊎ Mem m xs
+
+  pub mem-split : (m : A) (s t : List A) → Mem m (s ++ t) → Mem m s ⊎ Mem m t
+  mem-split m [] t h = inr h
+  mem-split m (x ∷ xs) t (inl e) = inl (inl e)
+  mem-split m (x ∷ xs) t (inr h) = go (mem-split m xs t h)
+    where
+      go : Mem m xs ⊎ Mem m t → Mem m (x ∷ xs) ⊎ Mem m t
+      go (inl h) = inl (inr h)
+      go (inr h) = inr h
+
+  pub mem-left : (m : A) (s t : List A) → Mem m s → Mem m (s ++ t)
+  mem-left m (x ∷ xs) t (inl e) = inl e
+  mem-left m (x ∷ xs) t (inr h) = inr (mem-left m xs t h)
+  mem-left m [] t h = absurd h
+
+  pub mem-right : (m : A) (s t : List A) → Mem m t → Mem m (s ++ t)
+  mem-right m [] t h = h
+  mem-right m (x ∷ xs) t h = inr (mem-right m xs t h)
+
+  pub mem-mid : (s : List A) (m : A) (t : List A) → Mem m (s ++ (m ∷ t))
+  mem-mid s m t = mem-right m s (m ∷ t) (inl refl)
+
+  -- what is left is there with the one taken out, too
+  pub mem-put : (x : A) (s : List A) (m : A) (t : List A) → Mem x (s ++ t) → Mem x (s ++ (m ∷ t))
+  mem-put x s m t h = go (mem-split x s t h)
+    where
+      go : Mem x s ⊎ Mem x t → Mem x (s ++ (m ∷ t))
+      go (inl h) = mem-left x s (m ∷ t) h
+      go (inr h) = mem-right x s (m ∷ t) (inr h)
+
+  abbrev pub All : (A → Type 0) → List A → Type 0
+  All P [] = Unit {0}
+  All P (x ∷ xs) = P x × All P xs
+
+  pub all-mem : (P : A → Type 0) (l : List A) → All P l → (x : A) → Mem x l → P x
+  all-mem P (y ∷ l) a x (inl e) = subst P (sym e) (a .0)
+  all-mem P (y ∷ l) a x (inr h) = all-mem P l (a .1) x h
+  all-mem P [] a x h = absurd h
+
+-- 1 where the two numbers are one
+pub ind : ℕ → ℕ → ℕ
+ind a h = elim (ℕ-discrete a h) [ yes e ↦ 1 | no e ↦ 0 ]
+
+pub ind-cases : (a h : ℕ) → ((a ≡ h) × (ind a h ≡ 1)) ⊎ ((a ≢ h) × (ind a h ≡ 0))
+unfolding ind
+ind-cases a h = go (ℕ-discrete a h)
+  where
+    pick : Dec (a ≡ h) → ℕ
+    pick d = elim d [ yes e ↦ 1 | no e ↦ 0 ]
+
+    go : (d : Dec (a ≡ h)) → ((a ≡ h) × (pick d ≡ 1)) ⊎ ((a ≢ h) × (pick d ≡ 0))
+    go (yes e) = inl (e, refl)
+    go (no e) = inr (e, refl)
+
+pub ind-same : (a : ℕ) → ind a a ≡ 1
+ind-same a = elim (ind-cases a a) [ inl w ↦ w .1 | inr w ↦ absurd (w .0 refl) ]
+
+pub ind-ne : (a h : ℕ) → a ≢ h → ind a h ≡ 0
+ind-ne a h e = elim (ind-cases a h) [ inl w ↦ absurd (e (w .0)) | inr w ↦ w .1 ]
+
+-- how often h stands in a list
+abbrev pub times : List ℕ → ℕ → ℕ
+times [] h = 0
+times (x ∷ xs) h = ind x h + times xs h
+
+-- h is none of them
+abbrev pub Off : List ℕ → ℕ → Type 0
+Off [] h = Unit {0}
+Off (x ∷ xs) h = (h ≢ x) × Off xs h
+
+pub times-off : (l : List ℕ) (h : ℕ) → Off l h → times l h ≡ 0
+times-off [] h o = refl
+times-off (x ∷ xs) h o = omega (arith, ind-ne x h (λ e. o .0 (sym e)), times-off xs h (o .1))
+
+pub off-or-in : (l : List ℕ) (h : ℕ) → Off l h ⊎ Mem h l
+off-or-in [] h = inl tt
+off-or-in (x ∷ xs) h = go (ℕ-discrete h x) (off-or-in xs h)
+  where
+    go : Dec (h ≡ x) → Off xs h ⊎ Mem h xs → Off (x ∷ xs) h ⊎ Mem h (x ∷ xs)
+    go (yes e) _ = inr (inl e)
+    go (no e) (inl o) = inl (e, o)
+    go (no e) (inr m) = inr (inr m)
+
+pub times-in : (l : List ℕ) (h : ℕ) → Mem h l → 1 ≤ times l h
+times-in (x ∷ xs) h (inl e) = omega (arith, ind-same h, ap (λ y. ind y h) e)
+times-in (x ∷ xs) h (inr m) = omega (arith, times-in xs h m)
+times-in [] h m = absurd m
+
+pub off-of : (l : List ℕ) (h : ℕ) → times l h ≡ 0 → Off l h
+off-of l h e = elim (off-or-in l h) [ inl o ↦ o | inr m ↦ absurd (omega (arith, times-in l h m)) ]
+
+-- a fact of every number, from one of them and all others
+pub by-row : {P : ℕ → Type 0} (r : ℕ) → P r → ((h : ℕ) → h ≢ r → P h) → (h : ℕ) → P h
+by-row {P} r p f h = elim (ℕ-discrete h r) [ yes e ↦ subst P (sym e) p | no e ↦ f h e ]
+
+-- membership by place
+module _ {A : Type 0} where
+  pub mem-at : (l : List A) (i : ℕ) (d : A) → i < length l → Mem (getD l i d) l
+  mem-at (x ∷ l) zero d h = inl refl
+  mem-at (x ∷ l) (suc i) d h = inr (mem-at l i d (omega arith))
+  mem-at [] i d h = absurd (omega arith)
+
+  -- what holds of every element holds at every place, and the other way round
+  pub all-at : (P : A → Type 0) (l : List A) (d : A) → ((i : ℕ) → i < length l → P (getD l i d)) → All P l
+  all-at P [] d f = tt
+  all-at P (x ∷ l) d f = (f 0 (omega arith), all-at P l d (λ i h. f (suc i) (omega arith)))
+
+  pub all-of : (P : A → Type 0) (l : List A) → ((x : A) → Mem x l → P x) → All P l
+  all-of P [] f = tt
+  all-of P (x ∷ l) f = (f x (inl refl), all-of P l (λ y k. f y (inr k)))

@@ -1,0 +1,1 @@
+// Laws of tests, lists and counting that the crates above cite; no code.

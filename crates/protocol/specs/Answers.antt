@@ -1,0 +1,52 @@
+-- Document 01's numbers and values for each case of an answer, an outcome and the other calls' answers; and the tally.
+use mathlib.Core.List.{List, [], _∷_}
+use Prim.Native.Nat.{ℕ, _+_}
+use lib.Dec.{ltb, eqb}
+use lib.ListN.{getD}
+use Rattle.lists.specs.Choice.{if_then_else_}
+use Rattle.protocol.specs.declared.Answer.{Answer}
+use Rattle.protocol.specs.declared.Answer.the-variants.{Quiet, Found, Entered, Gone, JoinTurnedAway, LeaveTurnedAway, Joined, Left}
+use Rattle.protocol.specs.declared.Outcome.{Outcome}
+use Rattle.protocol.specs.declared.Outcome.the-variants.{Refused, Answered}
+use Rattle.protocol.specs.declared.Tally.{Tally}
+
+-- 'Answers: kind, hub, number, ticket, hops. .. Unnamed fields are 0.'
+unfoldable pub answerWords : Answer → List ℕ
+answerWords Quiet = 0 ∷ 0 ∷ 0 ∷ 0 ∷ 0 ∷ []
+answerWords (Found hub number ticket hops) = 1 ∷ hub ∷ number ∷ ticket ∷ hops ∷ []
+answerWords (Entered hub) = 2 ∷ hub ∷ 0 ∷ 0 ∷ 0 ∷ []
+answerWords (Gone hub) = 3 ∷ hub ∷ 0 ∷ 0 ∷ 0 ∷ []
+answerWords (JoinTurnedAway hub) = 4 ∷ hub ∷ 0 ∷ 0 ∷ 0 ∷ []
+answerWords (LeaveTurnedAway hub) = 5 ∷ hub ∷ 0 ∷ 0 ∷ 0 ∷ []
+answerWords (Joined hub) = 6 ∷ hub ∷ 0 ∷ 0 ∷ 0 ∷ []
+answerWords (Left hub) = 7 ∷ hub ∷ 0 ∷ 0 ∷ 0 ∷ []
+
+-- 'the number returned is the refusal, 0 for none'
+unfoldable pub refusal : Outcome → ℕ
+refusal (Refused k) = k
+refusal (Answered a) = 0
+
+-- The tally: 'nine counts (kinds 0 to 7, refused)', one raised by each step; 'a count at 18446744073709551615 stays'.
+unfoldable pub raised : ℕ → ℕ
+raised n = if ltb n 18446744073709551615 then n + 1 else n
+
+-- Which count: that of the answer's kind, and 8 for a refusal.
+unfoldable pub countOf : Outcome → ℕ
+countOf (Refused k) = 8
+countOf (Answered a) = getD (answerWords a) 0 0
+
+unfoldable pub raisedAt : ℕ → Tally → Tally
+raisedAt k t = record {
+  quiet = if eqb k 0 then raised (t .quiet) else t .quiet;
+  found = if eqb k 1 then raised (t .found) else t .found;
+  entered = if eqb k 2 then raised (t .entered) else t .entered;
+  gone = if eqb k 3 then raised (t .gone) else t .gone;
+  «join_turned_away» = if eqb k 4 then raised (t .«join_turned_away») else t .«join_turned_away»;
+  «leave_turned_away» = if eqb k 5 then raised (t .«leave_turned_away») else t .«leave_turned_away»;
+  joined = if eqb k 6 then raised (t .joined) else t .joined;
+  left = if eqb k 7 then raised (t .left) else t .left;
+  refused = if eqb k 8 then raised (t .refused) else t .refused;
+}
+
+unfoldable pub counted : Tally → Outcome → Tally
+counted t o = raisedAt (countOf o) t

@@ -1,0 +1,150 @@
+-- Document 01, 'Each kind below names what t, the receiver, must be. f is the sender.'
+-- m is the delivered message, so t is m .to and f is m .from; h is t's row. A receiver that is not as required is 10.
+use mathlib.Core.Bool.{Bool, _&&_}
+use Prim.Native.Nat.{ℕ, _+_}
+use lib.Dec.{ltb, eqb}
+use Rattle.lists.specs.Choice.{if_then_else_}
+use Rattle.protocol.specs.declared.Row.{Row}
+use Rattle.protocol.specs.declared.Message.{Message}
+use Rattle.protocol.specs.declared.Answer.the-variants.{Quiet, Found, Entered, Gone, JoinTurnedAway, LeaveTurnedAway, Joined, Left}
+use Rattle.protocol.specs.declared.Route.{Route}
+use Rattle.protocol.specs.declared.Route.the-variants.{Own, To}
+use Rattle.protocol.specs.declared.Decision.{Decision}
+use Rattle.protocol.specs.declared.Decision.the-variants.{Refuse, Reply, Send}
+use Rattle.protocol.specs.Record.{none}
+use Rattle.protocol.specs.Routing.{inRing, inside, route}
+
+-- A question, and a message of any other kind, in which b and hops are 0.
+abbrev pub question : ℕ → ℕ → ℕ → ℕ → ℕ → Message
+question from to v ticket hops = record { kind = 1; from = from; to = to; a = v; b = ticket; hops = hops }
+
+abbrev pub note : ℕ → ℕ → ℕ → ℕ → Message
+note kind from to a = record { kind = kind; from = from; to = to; a = a; b = 0; hops = 0 }
+
+-- Rows with some fields changed.
+abbrev pub withState : Row → ℕ → Row
+withState h v =
+    record { identifier = h .identifier; state = v; lock = h .lock; flag = h .flag; pred = h .pred; succ = h .succ; oldpred = h .oldpred }
+
+abbrev pub withLock : Row → ℕ → Row
+withLock h v =
+    record { identifier = h .identifier; state = h .state; lock = v; flag = h .flag; pred = h .pred; succ = h .succ; oldpred = h .oldpred }
+
+abbrev pub withFlag : Row → ℕ → ℕ → Row
+withFlag h v o =
+    record { identifier = h .identifier; state = h .state; lock = h .lock; flag = v; pred = h .pred; succ = h .succ; oldpred = o }
+
+abbrev pub withPred : Row → ℕ → Row
+withPred h v =
+    record { identifier = h .identifier; state = h .state; lock = h .lock; flag = h .flag; pred = v; succ = h .succ; oldpred = h .oldpred }
+
+abbrev pub withSucc : Row → ℕ → Row
+withSucc h v =
+    record { identifier = h .identifier; state = h .state; lock = h .lock; flag = h .flag; pred = h .pred; succ = v; oldpred = h .oldpred }
+
+-- 1 LOOKUP (a number, b ticket): 'state 2 to 4. Hops grow by 1, staying at 65535 once there. Routed; the owner answers found.'
+-- p is the identifier of t's pred.
+unfoldable pub grown : Message → ℕ
+grown m = if ltb (m .hops) 65535 then m .hops + 1 else m .hops
+
+unfoldable pub lookedUp : Row → Message → Route → Decision
+lookedUp h m Own = Reply h (Found (m .to) (m .a) (m .b) (grown m))
+lookedUp h m (To z) = Send h (question (m .to) z (m .a) (m .b) (grown m)) Quiet
+
+unfoldable pub lookup : ℕ → Row → Message → Decision
+lookup p h m = if inRing h then lookedUp h m (route p h (m .from) (m .a)) else Refuse 10
+
+-- 2 JOIN: 'hub a in state 1. At t in state 0 or 1: JOINRETRY to a. Otherwise routed by a's identifier; an owner with lock 1 sends
+-- JOINRETRY to a; with lock 0 it locks, sets the flag, oldpred = pred, pred = a, sends JOINPOINT (a = oldpred) to hub a and answers
+-- entered.' p is the identifier of t's pred, and g the row of hub a.
+abbrev pub joinRetried : Row → Message → Decision
+joinRetried h m = Send h (note 3 (m .to) (m .a) 0) Quiet
+
+abbrev pub admitted : Row → ℕ → Row
+admitted h a = withPred (withFlag (withLock h 1) 1 (h .pred)) a
+
+unfoldable pub joined : Row → Message → Route → Decision
+joined h m Own = if eqb (h .lock) 1 then joinRetried h m else Send (admitted h (m .a)) (note 4 (m .to) (m .a) (h .pred)) (Entered (m .a))
+joined h m (To z) = Send h (note 2 (m .to) z (m .a)) Quiet
+
+unfoldable pub join : ℕ → Row → Row → Message → Decision
+join p h g m =
+    if eqb (g .state) 1
+    then (if ltb (h .state) 2 then joinRetried h m else joined h m (route p h (m .from) (g .identifier)))
+    else Refuse 10
+
+-- 3 JOINRETRY: 'state 1. State 0, lock 0. Join turned away.'
+unfoldable pub joinRetry : Row → Message → Decision
+joinRetry h m = if eqb (h .state) 1 then Reply (withLock (withState h 0) 0) (JoinTurnedAway (m .to)) else Refuse 10
+
+-- 4 JOINPOINT: 'state 1. State 2, pred = a, succ = f; NEWSUCC to a.'
+unfoldable pub joinPoint : Row → Message → Decision
+joinPoint h m =
+    if eqb (h .state) 1 then Send (withSucc (withPred (withState h 2) (m .a)) (m .from)) (note 5 (m .to) (m .a) 0) Quiet else Refuse 10
+
+-- 5 NEWSUCC: 'state 2 or 3. NEWSUCCACK (a = f) to succ; then succ = f.'
+unfoldable pub newSucc : Row → Message → Decision
+newSucc h m = if inside h then Send (withSucc h (m .from)) (note 6 (m .to) (h .succ) (m .from)) Quiet else Refuse 10
+
+-- 6 NEWSUCCACK: 'flag 1. Flag 0, oldpred none, lock 0; JOINDONE to a.'
+unfoldable pub newSuccAck : Row → Message → Decision
+newSuccAck h m = if eqb (h .flag) 1 then Send (withLock (withFlag h 0 none) 0) (note 7 (m .to) (m .a) 0) Quiet else Refuse 10
+
+-- 7 JOINDONE: 'state 2, lock 1, flag 0. Lock 0. Joined.'
+unfoldable pub joinDone : Row → Message → Decision
+joinDone h m =
+    if eqb (h .state) 2 && eqb (h .lock) 1 && eqb (h .flag) 0 then Reply (withLock h 0) (Joined (m .to)) else Refuse 10
+
+-- 8 LEAVEREQ: 'state 2 to 4. Lock 1: LEAVERETRY to f. Lock 0: lock, LEAVEGRANT to f.'
+unfoldable pub leaveReq : Row → Message → Decision
+leaveReq h m =
+    if inRing h
+    then (if eqb (h .lock) 1 then Send h (note 9 (m .to) (m .from) 0) Quiet else Send (withLock h 1) (note 10 (m .to) (m .from) 0) Quiet)
+    else Refuse 10
+
+-- 9 LEAVERETRY: 'state 3. State 2, lock 0. Leave turned away.'
+unfoldable pub leaveRetry : Row → Message → Decision
+leaveRetry h m = if eqb (h .state) 3 then Reply (withLock (withState h 2) 0) (LeaveTurnedAway (m .to)) else Refuse 10
+
+-- 10 LEAVEGRANT: 'state 3. State 4; LEAVEPOINT (a = pred) to f.'
+unfoldable pub leaveGrant : Row → Message → Decision
+leaveGrant h m = if eqb (h .state) 3 then Send (withState h 4) (note 11 (m .to) (m .from) (h .pred)) Quiet else Refuse 10
+
+-- 11 LEAVEPOINT: 'state 2, lock 1. pred = a; UPDATESUCC to a. Gone, hub f.'
+unfoldable pub leavePoint : Row → Message → Decision
+leavePoint h m =
+    if eqb (h .state) 2 && eqb (h .lock) 1 then Send (withPred h (m .a)) (note 12 (m .to) (m .a) 0) (Gone (m .from)) else Refuse 10
+
+-- 12 UPDATESUCC: 'state 2 or 3. STOPFORWARD to succ; then succ = f.'
+unfoldable pub updateSucc : Row → Message → Decision
+updateSucc h m = if inside h then Send (withSucc h (m .from)) (note 13 (m .to) (h .succ) 0) Quiet else Refuse 10
+
+-- 13 STOPFORWARD: 'state 4. LEAVEDONE to succ; state 0, lock 0, pointers none. Left.'
+abbrev pub departed : Row → Row
+departed h = withSucc (withPred (withLock (withState h 0) 0) none) none
+
+unfoldable pub stopForward : Row → Message → Decision
+stopForward h m = if eqb (h .state) 4 then Send (departed h) (note 14 (m .to) (h .succ) 0) (Left (m .to)) else Refuse 10
+
+-- 14 LEAVEDONE: 'state 2, lock 1, flag 0. Lock 0.'
+unfoldable pub leaveDone : Row → Message → Decision
+leaveDone h m = if eqb (h .state) 2 && eqb (h .lock) 1 && eqb (h .flag) 0 then Reply (withLock h 0) Quiet else Refuse 10
+
+-- By kind. (No other kind is well formed.)
+unfoldable pub handle : ℕ → Row → Row → Message → Decision
+handle p h g m =
+    if eqb (m .kind) 1 then lookup p h m
+    else if eqb (m .kind) 2 then join p h g m
+    else if eqb (m .kind) 3 then joinRetry h m
+    else if eqb (m .kind) 4 then joinPoint h m
+    else if eqb (m .kind) 5 then newSucc h m
+    else if eqb (m .kind) 6 then newSuccAck h m
+    else if eqb (m .kind) 7 then joinDone h m
+    else if eqb (m .kind) 8 then leaveReq h m
+    else if eqb (m .kind) 9 then leaveRetry h m
+    else if eqb (m .kind) 10 then leaveGrant h m
+    else if eqb (m .kind) 11 then leavePoint h m
+    else if eqb (m .kind) 12 then updateSucc h m
+    else if eqb (m .kind) 13 then stopForward h m
+    else if eqb (m .kind) 14 then leaveDone h m
+    else Refuse 10

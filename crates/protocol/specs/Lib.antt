@@ -1,0 +1,9 @@
+pub mod Record
+pub mod WellFormed
+pub mod Fresh
+pub mod Routing
+pub mod Kinds
+pub mod Step
+pub mod Calls
+pub mod Answers
+pub mod Membership

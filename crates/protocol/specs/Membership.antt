@@ -1,0 +1,81 @@
+-- Document 01, 'Ledger and holders': the ledger (here: the membership) and the counts of questions.
+-- It is fed the outcomes of the calls and the identifiers that the fresh call was given, and nothing of the record.
+use mathlib.Core.Bool.{Bool, _&&_}
+use mathlib.Core.List.{List, [], _∷_}
+use Prim.Native.Nat.{ℕ, _+_}
+use lib.Dec.{leb, eqb}
+use lib.ListN.{getD}
+use Rattle.clockwise.specs.Clockwise.{dist}
+use Rattle.lists.specs.Choice.{if_then_else_}
+use Rattle.protocol.specs.declared.Message.{Message}
+use Rattle.protocol.specs.declared.Answer.{Answer}
+use Rattle.protocol.specs.declared.Answer.the-variants.{Quiet, Found, Entered, Gone, JoinTurnedAway, LeaveTurnedAway, Joined, Left}
+use Rattle.protocol.specs.declared.Outcome.{Outcome}
+use Rattle.protocol.specs.declared.Outcome.the-variants.{Refused, Answered}
+use Rattle.protocol.specs.Record.{round}
+use Rattle.protocol.specs.Fresh.{founder}
+
+-- 'The ledger is a set of hub numbers, at first {0}', the hub that founds the ring.
+abbrev pub foundingMembers : List ℕ → List ℕ
+foundingMembers ids = founder ids ∷ []
+
+-- 'It takes in the hub of each entered answer and strikes off the hub of each gone answer.'
+unfoldable pub struckOff : List ℕ → ℕ → List ℕ
+struckOff [] h = []
+struckOff (k ∷ members) h = if eqb k h then struckOff members h else k ∷ struckOff members h
+
+unfoldable pub takenIn : List ℕ → ℕ → List ℕ
+takenIn members h = h ∷ struckOff members h
+
+-- 'Every other answer, and every refusal, leaves it as it is.'
+unfoldable pub afterAnswer : List ℕ → Answer → List ℕ
+afterAnswer members Quiet = members
+afterAnswer members (Found hub number ticket hops) = members
+afterAnswer members (Entered hub) = takenIn members hub
+afterAnswer members (Gone hub) = struckOff members hub
+afterAnswer members (JoinTurnedAway hub) = members
+afterAnswer members (LeaveTurnedAway hub) = members
+afterAnswer members (Joined hub) = members
+afterAnswer members (Left hub) = members
+
+unfoldable pub afterOutcome : List ℕ → Outcome → List ℕ
+afterOutcome members (Refused k) = members
+afterOutcome members (Answered a) = afterAnswer members a
+
+-- 'The owner of v is the member with the least clockwise distance from v to its identifier; an empty set has none.'
+pub data Owner : Type 0 where
+  nobody : Owner
+  node : ℕ → Owner
+
+unfoldable pub nearer : List ℕ → ℕ → ℕ → Owner → Owner
+nearer ids v h nobody = node h
+nearer ids v h (node k) = if leb (dist round v (getD ids h 0)) (dist round v (getD ids k 0)) then node h else node k
+
+unfoldable pub ownerAmong : List ℕ → List ℕ → ℕ → Owner
+ownerAmong ids [] v = nobody
+ownerAmong ids (h ∷ members) v = nearer ids v h (ownerAmong ids members v)
+
+-- 'questions waiting are the LOOKUP messages in the record'
+unfoldable pub waiting : List Message → ℕ
+waiting [] = 0
+waiting (m ∷ messages) = (if eqb (m .kind) 1 then 1 else 0) + waiting messages
+
+-- 'questions answered are the found answers', here by their tickets
+unfoldable pub ticketOf : Outcome → List ℕ
+ticketOf (Refused k) = []
+ticketOf (Answered a) = foundTicket a
+  where
+    foundTicket : Answer → List ℕ
+    foundTicket Quiet = []
+    foundTicket (Found hub number ticket hops) = ticket ∷ []
+    foundTicket (Entered hub) = []
+    foundTicket (Gone hub) = []
+    foundTicket (JoinTurnedAway hub) = []
+    foundTicket (LeaveTurnedAway hub) = []
+    foundTicket (Joined hub) = []
+    foundTicket (Left hub) = []
+
+-- 'Questions accepted are the asks in the list that were not refused': 1 for such a call
+unfoldable pub acceptedAsk : ℕ → Outcome → ℕ
+acceptedAsk operation (Refused k) = 0
+acceptedAsk operation (Answered a) = if eqb operation 0 then 1 else 0

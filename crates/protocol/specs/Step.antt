@@ -1,0 +1,102 @@
+-- Document 01, 'Commands and their messages', with the questions of a step in their order: the one meaning of a step.
+use mathlib.Core.Bool.{Bool, not, _&&_}
+use mathlib.Core.List.{List, _∷_}
+use Prim.Native.Nat.{ℕ, _+_}
+use lib.Dec.{ltb, eqb}
+use lib.ListN.{length}
+use Rattle.lists.specs.Choice.{if_then_else_}
+use Rattle.lists.specs.Search.{first}
+use Rattle.protocol.specs.declared.Row.{Row}
+use Rattle.protocol.specs.declared.Answer.{Answer}
+use Rattle.protocol.specs.declared.Answer.the-variants.{Quiet, Found}
+use Rattle.protocol.specs.declared.Route.{Route}
+use Rattle.protocol.specs.declared.Route.the-variants.{Own, To}
+use Rattle.protocol.specs.declared.Decision.{Decision}
+use Rattle.protocol.specs.declared.Decision.the-variants.{Refuse, Reply, Send}
+use Rattle.protocol.specs.Record.{mostMessages, State, count, row, identifier, message, withRow, sent, taken}
+use Rattle.protocol.specs.Routing.{inRing, onward}
+use Rattle.protocol.specs.Kinds.{question, note, withState, withLock, handle}
+
+-- A step is refused, or gives an answer and the next state.
+pub data Result : Type 0 where
+  refused : ℕ → Result
+  accepted : Answer → State → Result
+
+-- 'The first no decides. The number is returned'
+unfoldable pub require : Bool → ℕ → Result → Result
+require b k r = if b then r else refused k
+
+-- What a decision does at hub t. 'A sent message goes last'.
+unfoldable pub conclude : State → ℕ → Decision → Result
+conclude s t (Refuse k) = refused k
+conclude s t (Reply h a) = accepted a (withRow s t h)
+conclude s t (Send h m a) = accepted a (sent (withRow s t h) m)
+
+-- 'm below 256?'
+unfoldable pub room : State → Bool
+room s = ltb (length (s .messages)) mostMessages
+
+-- 0 ask, hub x, number v: 'takes ticket = asked, adds 1 to asked, then routes with no sender and hops 0.'
+abbrev pub ticketed : State → State
+ticketed s = record { rows = s .rows; messages = s .messages; asked = s .asked + 1 }
+
+unfoldable pub asking : State → ℕ → ℕ → Route → Result
+asking s x v Own = accepted (Found x v (s .asked) 0) (ticketed s)
+asking s x v (To z) = require (room s) 11 (accepted Quiet (sent (ticketed s) (question x z v (s .asked) 0)))
+
+-- 'x in state 2 to 4? 5. asked below 4294967295? 12. If it must be sent on, m below 256? 11.'
+unfoldable pub ask : State → ℕ → ℕ → Result
+ask s x v =
+    require (ltb x (count s)) 4
+    (require (inRing (row s x)) 5
+    (require (ltb (s .asked) 4294967295) 12
+    (asking s x v (onward (identifier s (row s x .pred)) (row s x) v))))
+
+-- 1 join, hub x, contact y: 'x becomes joining, locked; sends JOIN (a = x) to y.'
+-- 'x outside? 6. y in state 2 to 4? 5. m below 256? 11.'
+unfoldable pub join : State → ℕ → ℕ → Result
+join s x y =
+    require (ltb x (count s) && ltb y (count s)) 4
+    (require (eqb (row s x .state) 0) 6
+    (require (inRing (row s y)) 5
+    (require (room s) 11
+    (conclude s x (Send (withLock (withState (row s x) 1) 1) (note 2 x y x) Quiet)))))
+
+-- 2 leave, hub x (y not read): 'x gets state 3, locked; sends LEAVEREQ to its succ.'
+-- 'x in state 2 to 4? 5. Lock free? 7. succ another hub? 8. m below 256? 11.'
+unfoldable pub leave : State → ℕ → Result
+leave s x =
+    require (ltb x (count s)) 4
+    (require (inRing (row s x)) 5
+    (require (eqb (row s x .lock) 0) 7
+    (require (not (eqb (row s x .succ) x)) 8
+    (require (room s) 11
+    (conclude s x (Send (withLock (withState (row s x) 3) 1) (note 8 x (row s x .succ) 0) Quiet))))))
+
+-- 3 deliver from x to y: 'the oldest message with that from and to'; its place, or the number of messages where there is none
+unfoldable pub onLink : State → ℕ → ℕ → ℕ → Bool
+onLink s x y j = eqb (message s j .from) x && eqb (message s j .to) y
+
+abbrev pub oldest : State → ℕ → ℕ → ℕ
+oldest s x y = first (onLink s x y) (length (s .messages))
+
+-- 'a delivered one is taken out and later ones move up': message j, at its receiver t
+unfoldable pub delivered : State → ℕ → ℕ → Result
+delivered s t j =
+    conclude (taken s j) t (handle (identifier s (row s t .pred)) (row s t) (row s (message s j .a)) (message s j))
+
+-- 'such a message? 9. Receiver, and hub a for JOIN, as required? 10.'
+unfoldable pub deliver : State → ℕ → ℕ → Result
+deliver s x y =
+    require (ltb x (count s) && ltb y (count s)) 4
+    (require (ltb (oldest s x y) (length (s .messages))) 9
+    (delivered s y (oldest s x y)))
+
+-- 'operation 0 to 3? 3.'
+unfoldable pub step : State → ℕ → ℕ → ℕ → Result
+step s operation x y =
+    if eqb operation 0 then ask s x y
+    else if eqb operation 1 then join s x y
+    else if eqb operation 2 then leave s x
+    else if eqb operation 3 then deliver s x y
+    else refused 3

@@ -1,0 +1,69 @@
+-- Document 01, 'Well formed', of the words. A State's part of it is `formed`.
+use mathlib.Core.Bool.{Bool, _&&_, _||_}
+use mathlib.Core.List.{List, map}
+use Prim.Native.Nat.{ℕ, _+_, _-_, _*_}
+use lib.Dec.{leb, ltb, eqb}
+use lib.ListN.{length, getD, take, drop}
+use Rattle.lists.specs.Choice.{if_then_else_}
+use Rattle.lists.specs.Tests.{every, distinct}
+use Rattle.protocol.specs.declared.Row.{Row}
+use Rattle.protocol.specs.declared.Message.{Message}
+use Rattle.protocol.specs.Record.{round, form, mostNodes, mostMessages, rowSize, messageSize, rowStart, messageStart, none, State, count, countIn, messagesIn, read}
+
+-- 'states 0 and 1 have pred and succ none, states 2 to 4 have both below n'
+unfoldable pub pointersOk : ℕ → Row → Bool
+pointersOk n h =
+    if ltb (h .state) 2 then eqb (h .pred) none && eqb (h .succ) none else ltb (h .state) 5 && ltb (h .pred) n && ltb (h .succ) n
+
+-- 'lock (0 free, 1 taken)'; 'state 0 has lock 0, states 1, 3, 4 lock 1'
+unfoldable pub lockOk : Row → Bool
+lockOk h = if eqb (h .state) 2 then ltb (h .lock) 2 else if eqb (h .state) 0 then eqb (h .lock) 0 else eqb (h .lock) 1
+
+-- 'flag 1 needs state 2, lock 1 and oldpred below n; flag 0 has oldpred none'
+unfoldable pub flagOk : ℕ → Row → Bool
+flagOk n h =
+    if eqb (h .flag) 0 then eqb (h .oldpred) none else eqb (h .flag) 1 && eqb (h .state) 2 && eqb (h .lock) 1 && ltb (h .oldpred) n
+
+unfoldable pub rowOk : ℕ → Row → Bool
+rowOk n h = pointersOk n h && lockOk h && flagOk n h
+
+-- 'LOOKUP has any a, b below asked and hops at most 65535; JOIN, JOINPOINT, NEWSUCCACK and LEAVEPOINT have a below n; other
+-- message fields are 0': what each field of a message of kind k is below.
+unfoldable pub limitA : ℕ → ℕ → ℕ
+limitA n k = if eqb k 1 then round else if eqb k 2 || eqb k 4 || eqb k 6 || eqb k 11 then n else 1
+
+unfoldable pub limitB : ℕ → ℕ → ℕ
+limitB asked k = if eqb k 1 then asked else 1
+
+unfoldable pub limitHops : ℕ → ℕ
+limitHops k = if eqb k 1 then 65536 else 1
+
+-- 'kinds 1 to 14; from and to below n'
+unfoldable pub messageOk : ℕ → ℕ → Message → Bool
+messageOk n asked m =
+    leb 1 (m .kind) && ltb (m .kind) 15 && ltb (m .from) n && ltb (m .to) n
+    && ltb (m .a) (limitA n (m .kind)) && ltb (m .b) (limitB asked (m .kind)) && ltb (m .hops) (limitHops (m .kind))
+
+abbrev pub identifiers : State → List ℕ
+identifiers s = map (λ h. h .identifier) (s .rows)
+
+-- 'identifiers of the n hubs differ', and each row and each message is as it must be
+unfoldable pub formed : State → Bool
+formed s = distinct (identifiers s) && every (rowOk (count s)) (s .rows) && every (messageOk (count s) (s .asked)) (s .messages)
+
+-- 'form (1), hub count n (1 to 64), message count m (0 to 256)'
+unfoldable pub headerOk : List ℕ → Bool
+headerOk w = eqb (getD w 0 0) form && leb 1 (countIn w) && leb (countIn w) mostNodes && leb (messagesIn w) mostMessages
+
+-- 'unused rows and messages are all 0'
+abbrev pub unusedRows : List ℕ → List ℕ
+unusedRows w = take (rowSize * mostNodes - rowSize * countIn w) (drop (rowStart (countIn w)) w)
+
+abbrev pub unusedMessages : List ℕ → List ℕ
+unusedMessages w = take (messageSize * mostMessages - messageSize * messagesIn w) (drop (messageStart (messagesIn w)) w)
+
+unfoldable pub unusedOk : List ℕ → Bool
+unusedOk w = every (λ x. eqb x 0) (unusedRows w) && every (λ x. eqb x 0) (unusedMessages w)
+
+unfoldable pub wellFormed : List ℕ → Bool
+wellFormed w = headerOk w && unusedOk w && formed (read w)

@@ -1,0 +1,74 @@
+//! The calls on bytes, as the C boundary has them (document 01, 'Reading the
+//! ring'): four bytes a word, lowest first.
+
+use crate::queries::owner;
+use crate::record::RECORD_WORDS;
+use crate::refusal;
+use crate::step::{fresh, step};
+
+/// Nothing was refused.
+pub const NO_REFUSAL: u32 = 0;
+/// Bytes of a step's answer: five words.
+pub const ANSWER_BYTES: usize = 20;
+/// Bytes of an owner query's answer: one word.
+pub const OWNER_BYTES: usize = 4;
+
+/// Reads at most `limit` whole words; one to three bytes left over are not
+/// read.
+fn words_of(bytes: &[u8], limit: usize) -> Vec<u32> {
+    bytes
+        .chunks_exact(4)
+        .take(limit)
+        .map(|four| u32::from_le_bytes([four[0], four[1], four[2], four[3]]))
+        .collect()
+}
+
+/// Writes the words at the start of `bytes`; what lies past them stays.
+fn write_words(bytes: &mut [u8], words: &[u32]) {
+    for (four, word) in bytes.chunks_exact_mut(4).zip(words) {
+        four.copy_from_slice(&word.to_le_bytes());
+    }
+}
+
+/// A step. 'Output too short is 17, asked first'; no tally is passed.
+pub fn ring_step(words: &mut [u8], operation: u32, x: u32, y: u32, out: &mut [u8]) -> u32 {
+    if out.len() < ANSWER_BYTES {
+        return refusal::OUTPUT_SHORT;
+    }
+    let mut record = words_of(words, RECORD_WORDS);
+    match step(&mut record, operation, x, y) {
+        Ok(answer) => {
+            write_words(words, &record);
+            write_words(out, &answer.words());
+            NO_REFUSAL
+        }
+        Err(number) => number,
+    }
+}
+
+/// An owner query; the hub is written as one word.
+pub fn ring_owner(words: &[u8], key: u32, out: &mut [u8]) -> u32 {
+    if out.len() < OWNER_BYTES {
+        return refusal::OUTPUT_SHORT;
+    }
+    match owner(&words_of(words, RECORD_WORDS), key) {
+        Ok(node) => {
+            write_words(out, &[node]);
+            NO_REFUSAL
+        }
+        Err(number) => number,
+    }
+}
+
+/// Founding on bytes. Document 01 exports step and owner only; this one lets
+/// tests found a ring in the same form.
+pub fn ring_fresh(words: &mut [u8], identifiers: &[u8]) -> u32 {
+    let mut record = words_of(words, RECORD_WORDS);
+    match fresh(&mut record, &words_of(identifiers, usize::MAX)) {
+        Ok(()) => {
+            write_words(words, &record);
+            NO_REFUSAL
+        }
+        Err(number) => number,
+    }
+}

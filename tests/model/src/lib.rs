@@ -1,0 +1,33 @@
+//! A plain model of the depot hub ring, written from document 01 alone.
+//!
+//! It is meant to be read beside that paper and run beside an engine: each
+//! rule stands here once, in the paper's order, with no thought for speed.
+//! Nothing in it is shared with any engine.
+
+#![forbid(unsafe_code)]
+#![warn(missing_docs)]
+
+pub mod answer;
+pub mod bytes;
+pub mod clockwise;
+pub mod command;
+pub mod frames;
+pub mod generator;
+pub mod kinds;
+pub mod ledger;
+pub mod queries;
+pub mod record;
+pub mod refusal;
+pub mod ringrun;
+pub mod routing;
+pub mod step;
+pub mod tally;
+pub mod witness;
+
+pub use answer::Answer;
+pub use command::Command;
+pub use ledger::{Membership, Witness};
+pub use queries::{hub_row, owner, roll_call};
+pub use record::{well_formed, RECORD_WORDS};
+pub use step::{fresh, step};
+pub use tally::{step_tallied, Tally};

@@ -1,0 +1,37 @@
+//! The refusal numbers of document 01, 'Questions before a call, in order'.
+//! Each is the number returned on a no to the question named beside it.
+
+/// Are there 1,988 words?
+pub const RECORD_SHORT: u32 = 1;
+/// Is the record well formed?
+pub const NOT_WELL_FORMED: u32 = 2;
+/// Is the operation 0 to 3?
+pub const NO_SUCH_OPERATION: u32 = 3;
+/// Are the node numbers that are read below n?
+pub const NO_SUCH_NODE: u32 = 4;
+/// Is the node in state 2 to 4?
+pub const NOT_IN_RING: u32 = 5;
+/// Is the node outside?
+pub const NOT_OUTSIDE: u32 = 6;
+/// Is the lock free?
+pub const LOCKED: u32 = 7;
+/// Is succ another node?
+pub const ALONE: u32 = 8;
+/// Is there such a message?
+pub const LINK_EMPTY: u32 = 9;
+/// Is the receiver, and node a for JOIN, as required?
+pub const NOT_AS_REQUIRED: u32 = 10;
+/// Is m below 256?
+pub const MESSAGES_FULL: u32 = 11;
+/// Is asked below 4294967295?
+pub const TICKETS_USED_UP: u32 = 12;
+/// Are there 1 to 64 identifiers?
+pub const IDENTIFIER_COUNT: u32 = 13;
+/// Are all identifiers different?
+pub const IDENTIFIERS_REPEAT: u32 = 14;
+/// Does some node hold the key?
+pub const NO_HOLDER: u32 = 15;
+/// Does following succ come back to the start after at most n nodes?
+pub const NO_WAY_ROUND: u32 = 16;
+/// Is the output long enough?
+pub const OUTPUT_SHORT: u32 = 17;

@@ -1,0 +1,19 @@
+//! Document 01 read aloud: its listing, its probes, the field engineer's
+//! checks, every refusal number, and the faults a good engineer makes.
+
+mod common;
+
+#[path = "document/checklist.rs"]
+mod checklist;
+#[path = "document/faults.rs"]
+mod faults;
+#[path = "document/kinds.rs"]
+mod kinds;
+#[path = "document/listing.rs"]
+mod listing;
+#[path = "document/probes.rs"]
+mod probes;
+#[path = "document/refusals.rs"]
+mod refusals;
+#[path = "document/well_formed.rs"]
+mod well_formed;
