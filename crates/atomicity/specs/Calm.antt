@@ -12,15 +12,15 @@ use Rattle.atomicity.specs.Frame.{Keeps, points-at}
 use Rattle.atomicity.specs.OneStep.{held-append, closed-grow, closed-late, no-join-grow, way-add, change}
 
 -- S′ is S with the row of r made v and s
-pub record Row (S S′ : Hubs) (r : ℕ) (v : Core) (s : ℕ) : Type 0 where
+pub record Rewritten (S S′ : Hubs) (r : ℕ) (v : Core) (s : ℕ) : Type 0 where
   pub core : S′ .core r ≡ v
   pub succ : S′ .succ r ≡ s
   pub off : (h : ℕ) → h ≢ r → S′ .core h ≡ S .core h
   pub offs : (h : ℕ) → h ≢ r → S′ .succ h ≡ S .succ h
 
-module _ {S S′ : Hubs} {r : ℕ} {v : Core} {s : ℕ} (w : Row S S′ r v s) where
+module _ {S S′ : Hubs} {r : ℕ} {v : Core} {s : ℕ} (w : Rewritten S S′ r v s) where
   -- r's succ is left as it is, and r stays in the ring: whoever pointed to h does so still
-  pub points-row : (p h : ℕ) → s ≡ S .succ r → (2 ≤ S .core r .st → S .core r .st ≤ 3 → (2 ≤ v .st) × (v .st ≤ 3)) → Points S p h → Points S′ p h
+  pub points-row : (p h : ℕ) → s ≡ S .succ r → (2 ≤ S .core r .state → S .core r .state ≤ 3 → (2 ≤ v .state) × (v .state ≤ 3)) → Points S p h → Points S′ p h
   points-row p h e f = go (ℕ-discrete p r)
     where
       go : Dec (p ≡ r) → Points S p h → Points S′ p h
@@ -31,7 +31,7 @@ module _ {S S′ : Hubs} {r : ℕ} {v : Core} {s : ℕ} (w : Row S S′ r v s) w
 
 -- r's row as those that point to it need it
 abbrev pub Serves : Core → ℕ → ℕ → Type 0
-Serves v l h = (2 ≤ v .st) × (v .st ≤ 4) × (l ≡ 1 → (v .pred ≡ h) ⊎ ((v .flag ≡ 1) × (v .oldp ≡ h)))
+Serves v l h = (2 ≤ v .state) × (v .state ≤ 4) × (l ≡ 1 → (v .pred ≡ h) ⊎ ((v .flag ≡ 1) × (v .oldpred ≡ h)))
 
 pub record Calm (n : ℕ) (id : ℕ → ℕ) (c : ℕ) (S S′ : Hubs) (g is : List ℕ) (R new : List Msg) (r : ℕ) (v : Core) (s : ℕ) : Type 0 where
   -- locks
@@ -42,26 +42,26 @@ pub record Calm (n : ℕ) (id : ℕ → ℕ) (c : ℕ) (S S′ : Hubs) (g is : L
   -- the frame, at r
   pub frame-core : Off is r → v ≡ S .core r
   pub frame-self : Off is r → S .succ r ≢ r → s ≢ r
-  pub frame-succ : 2 ≤ S .core r .st → S .core r .st ≤ 4 → Off is (S .succ r) → s ≡ S .succ r
-  pub frame-stay : 2 ≤ S .core r .st → S .core r .st ≤ 3 → Off is (S .succ r) → (2 ≤ v .st) × (v .st ≤ 3)
+  pub frame-succ : 2 ≤ S .core r .state → S .core r .state ≤ 4 → Off is (S .succ r) → s ≡ S .succ r
+  pub frame-stay : 2 ≤ S .core r .state → S .core r .state ≤ 3 → Off is (S .succ r) → (2 ≤ v .state) × (v .state ≤ 3)
   -- the participants
   pub idle : All (λ h. S′ .core h .lock ≡ 0 → Idle S′ h) is
   pub fresh : All (Loc S′) new
   -- r's row
-  pub fwd : 2 ≤ v .st → v .st ≤ 4 → Serves (S′ .core s) (S .led r) r
-  pub served : (h : ℕ) → S .succ h ≡ r → 2 ≤ S .core h .st → S .core h .st ≤ 4 → Serves (S .core r) (S .led h) h → Serves v (S .led h) h
+  pub fwd : 2 ≤ v .state → v .state ≤ 4 → Serves (S′ .core s) (S .led r) r
+  pub served : (h : ℕ) → S .succ h ≡ r → 2 ≤ S .core h .state → S .core h .state ≤ 4 → Serves (S .core r) (S .led h) h → Serves v (S .led h) h
   pub flags : Flags v
   pub member : Member v (S .led r)
-  pub next : 2 ≤ v .st → S .led r ≡ 1 → PredL n id (S .led) (v .pred) r
-  pub below : 1 ≤ v .st → r < c
+  pub next : 2 ≤ v .state → S .led r ≡ 1 → PredL n id (S .led) (v .pred) r
+  pub below : 1 ≤ v .state → r < c
   -- the links
-  pub onward : 2 ≤ S .core r .st → S .core r .st ≤ 4 → Closed r (S .succ r) new ⊎ ((2 ≤ v .st) × (v .st ≤ 4) × (s ≡ S .succ r))
+  pub onward : 2 ≤ S .core r .state → S .core r .state ≤ 4 → Closed r (S .succ r) new ⊎ ((2 ≤ v .state) × (v .state ≤ 4) × (s ≡ S .succ r))
   pub back : S .core r .flag ≡ 1 → Closed r (S .core r .pred) new ⊎ ((v .flag ≡ 1) × (v .pred ≡ S .core r .pred))
   pub nojoin : (a t p : ℕ) → Mem (joinPoint a t p) new → ⊥
   pub fifo : Fifo S′ new
 
 module _ {n : ℕ} {id : ℕ → ℕ} {c : ℕ} {S S′ : Hubs} {g is : List ℕ} {R new : List Msg} {r : ℕ} {v : Core} {s : ℕ}
-    (i : Inv n id c S g R) (w : Row S S′ r v s) (ls : (h : ℕ) → S′ .led h ≡ S .led h) (d : Calm n id c S S′ g is R new r v s) where
+    (i : Inv n id c S g R) (w : Rewritten S S′ r v s) (ls : (h : ℕ) → S′ .led h ≡ S .led h) (d : Calm n id c S S′ g is R new r v s) where
   calm-keeps : Keeps S S′ is
   calm-keeps = record {
     core = by-row r (λ o. w .core ∙ d .frame-core o) (λ h ne o. w .off h ne);
@@ -98,7 +98,7 @@ module _ {n : ℕ} {id : ℕ → ℕ} {c : ℕ} {S S′ : Hubs} {g is : List ℕ
       fwd-r : Serves (S′ .core s) (S .led r) r → Fwd S′ r
       fwd-r k = record { low = rw (w .succ) (k .0); high = rw (w .succ) (k .1); knows = rw (w .succ, ls r) (k .2) }
 
-      open-r : (y : ℕ) (u : List Msg) → S .succ r ≡ y → Closed r (S .succ r) new ⊎ ((2 ≤ v .st) × (v .st ≤ 4) × (s ≡ S .succ r)) → Way S′ r y (u ++ new)
+      open-r : (y : ℕ) (u : List Msg) → S .succ r ≡ y → Closed r (S .succ r) new ⊎ ((2 ≤ v .state) × (v .state ≤ 4) × (s ≡ S .succ r)) → Way S′ r y (u ++ new)
       open-r y u e (inl k) = inl (closed-late u (rw e at k))
       open-r y u e (inr k) = inr (inl (record { low = rw (w .core) (k .0); high = rw (w .core) (k .1); at = w .succ ∙ k .2 ∙ e }))
 
@@ -116,7 +116,7 @@ module _ {n : ℕ} {id : ℕ → ℕ} {c : ℕ} {S S′ : Hubs} {g is : List ℕ
       entry a t p (inl m) = predl-ext ls (i .entry a t p m)
       entry a t p (inr m) = absurd (d .nojoin a t p m)
 
-      fwd-to : (h : ℕ) → h ≢ r → S .succ h ≡ r → 2 ≤ S .core h .st → S .core h .st ≤ 4 → Fwd S h → Fwd S′ h
+      fwd-to : (h : ℕ) → h ≢ r → S .succ h ≡ r → 2 ≤ S .core h .state → S .core h .state ≤ 4 → Fwd S h → Fwd S′ h
       fwd-to h ne e l u f =
           let es : S′ .succ h ≡ r = w .offs h ne ∙ e in
           let ec : S′ .core (S′ .succ h) ≡ v = rw es (w .core) in
@@ -125,7 +125,7 @@ module _ {n : ℕ} {id : ℕ → ℕ} {c : ℕ} {S S′ : Hubs} {g is : List ℕ
 
 -- r's succ is left as it is, and serves r if it did
 pub fwd-same : {n : ℕ} {id : ℕ → ℕ} {c : ℕ} {S S′ : Hubs} {g : List ℕ} {R : List Msg} {r : ℕ} {v : Core}
-    → Inv n id c S g R → Row S S′ r v (S .succ r) → 2 ≤ S .core r .st → S .core r .st ≤ 4
+    → Inv n id c S g R → Rewritten S S′ r v (S .succ r) → 2 ≤ S .core r .state → S .core r .state ≤ 4
     → (S .succ r ≡ r → Serves (S .core r) (S .led r) r → Serves v (S .led r) r) → Serves (S′ .core (S .succ r)) (S .led r) r
 fwd-same {S = S} {S′ = S′} {r = r} {v = v} i w l u f = go (ℕ-discrete (S .succ r) r) (i .fwd r l u)
   where

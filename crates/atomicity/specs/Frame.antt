@@ -16,24 +16,24 @@ module _ {S S′ : Hubs} where
   points-at p h e f x = record { low = rw e (x .low); high = rw e (x .high); at = f ∙ x .at }
 
   pub plain-at : (h c p : ℕ) → S′ .core h ≡ S .core h → Plain S h c p → Plain S′ h c p
-  plain-at h c p e x = record { st = rw e (x .st); flag = rw e (x .flag); pred = rw e (x .pred) }
+  plain-at h c p e x = record { state = rw e (x .state); flag = rw e (x .flag); pred = rw e (x .pred) }
 
   pub flagged-at : (t a p : ℕ) → S′ .core t ≡ S .core t → Flagged S t a p → Flagged S′ t a p
-  flagged-at t a p e x = record { st = rw e (x .st); flag = rw e (x .flag); pred = rw e (x .pred); oldp = rw e (x .oldp) }
+  flagged-at t a p e x = record { state = rw e (x .state); flag = rw e (x .flag); pred = rw e (x .pred); oldpred = rw e (x .oldpred) }
 
   -- h's row the same, and p, h's pred, points to it still
   pub linked-at : (h c : ℕ) → S′ .core h ≡ S .core h → Linked S h c → (Points S (S .core h .pred) h → Points S′ (S .core h .pred) h) → Linked S′ h c
-  linked-at h c e x f = record { st = rw e (x .st); flag = rw e (x .flag); back = rw e (f (x .back)) }
+  linked-at h c e x f = record { state = rw e (x .state); flag = rw e (x .flag); back = rw e (f (x .back)) }
 
 pub record Keeps (S S′ : Hubs) (is : List ℕ) : Type 0 where
   pub core : (h : ℕ) → Off is h → S′ .core h ≡ S .core h
   pub led : (h : ℕ) → Off is h → S′ .led h ≡ S .led h
-  pub succ : (p : ℕ) → 2 ≤ S .core p .st → S .core p .st ≤ 4 → Off is (S .succ p) → S′ .succ p ≡ S .succ p
-  pub stay : (p : ℕ) → 2 ≤ S .core p .st → S .core p .st ≤ 3 → Off is (S .succ p) → (2 ≤ S′ .core p .st) × (S′ .core p .st ≤ 3)
+  pub succ : (p : ℕ) → 2 ≤ S .core p .state → S .core p .state ≤ 4 → Off is (S .succ p) → S′ .succ p ≡ S .succ p
+  pub stay : (p : ℕ) → 2 ≤ S .core p .state → S .core p .state ≤ 3 → Off is (S .succ p) → (2 ≤ S′ .core p .state) × (S′ .core p .state ≤ 3)
   pub self : (h : ℕ) → Off is h → S .succ h ≢ h → S′ .succ h ≢ h
 
 module _ {S S′ : Hubs} {is : List ℕ} (k : Keeps S S′ is) where
-  pub keep-succ : (q t : ℕ) → Off is t → 2 ≤ S .core q .st → S .core q .st ≤ 4 → S .succ q ≡ t → S′ .succ q ≡ t
+  pub keep-succ : (q t : ℕ) → Off is t → 2 ≤ S .core q .state → S .core q .state ≤ 4 → S .succ q ≡ t → S′ .succ q ≡ t
   keep-succ q t o l u e = k .succ q l u (subst (Off is) (sym e) o) ∙ e
 
   pub keep-points : (p h : ℕ) → Off is h → Points S p h → Points S′ p h
@@ -51,11 +51,11 @@ module _ {S S′ : Hubs} {is : List ℕ} (k : Keeps S S′ is) where
   keep-linked h c o x = linked-at h c (k .core h o) x (keep-points (S .core h .pred) h o)
 
   pub keep-idle : (h : ℕ) → Off is h → Idle S h → Idle S′ h
-  keep-idle h o (inl e) = inl (ap (λ r. r .st) (k .core h o) ∙ e)
+  keep-idle h o (inl e) = inl (ap (λ r. r .state) (k .core h o) ∙ e)
   keep-idle h o (inr x) = inr (keep-linked h 2 o x)
 
-  st-keep : (h c : ℕ) → Off is h → S .core h .st ≡ c → S′ .core h .st ≡ c
-  st-keep h c o e = ap (λ r. r .st) (k .core h o) ∙ e
+  st-keep : (h c : ℕ) → Off is h → S .core h .state ≡ c → S′ .core h .state ≡ c
+  st-keep h c o e = ap (λ r. r .state) (k .core h o) ∙ e
 
   -- the frame lemma: the condition of a message that has no hub of `is`
   pub frame : (m : Msg) → All (Off is) (owners m) → Loc S m → Loc S′ m
@@ -70,13 +70,13 @@ module _ {S S′ : Hubs} {is : List ℕ} (k : Keeps S S′ is) where
   )
   frame (newSucc a t p) o l = (
     keep-plain a 2 p (o .0) (l .0),
-    keep-succ a t (o .1 .0) (omega (arith, l .0 .st)) (omega (arith, l .0 .st)) (l .1),
+    keep-succ a t (o .1 .0) (omega (arith, l .0 .state)) (omega (arith, l .0 .state)) (l .1),
     keep-flagged t a p (o .1 .0) (l .2),
     keep-points p t (o .1 .0) (l .3),
   )
   frame (newSuccAck a t p) o l = (
     keep-plain a 2 p (o .0) (l .0),
-    keep-succ a t (o .1 .0) (omega (arith, l .0 .st)) (omega (arith, l .0 .st)) (l .1),
+    keep-succ a t (o .1 .0) (omega (arith, l .0 .state)) (omega (arith, l .0 .state)) (l .1),
     keep-flagged t a p (o .1 .0) (l .2),
     keep-points p a (o .0) (l .3),
   )
@@ -85,28 +85,28 @@ module _ {S S′ : Hubs} {is : List ℕ} (k : Keeps S S′ is) where
   frame (leaveRetry x q) o l = (keep-linked q 3 (o .0) (l .0), k .self q (o .0) (l .1))
   frame (leaveGrant q t) o l = (
     keep-linked q 3 (o .0) (l .0),
-    keep-succ q t (o .1 .0) (omega (arith, l .0 .st)) (omega (arith, l .0 .st)) (l .1),
+    keep-succ q t (o .1 .0) (omega (arith, l .0 .state)) (omega (arith, l .0 .state)) (l .1),
     keep-plain t 2 q (o .1 .0) (l .2),
   )
   frame (leavePoint q t p) o l = (
     keep-plain q 4 p (o .0) (l .0),
     k .led q (o .0) ∙ l .1,
     keep-points p q (o .0) (l .2),
-    keep-succ q t (o .1 .0) (omega (arith, l .0 .st)) (omega (arith, l .0 .st)) (l .3),
+    keep-succ q t (o .1 .0) (omega (arith, l .0 .state)) (omega (arith, l .0 .state)) (l .3),
     keep-plain t 2 q (o .1 .0) (l .4),
   )
   frame (updateSucc q t p) o l = (
     keep-plain q 4 p (o .0) (l .0),
     k .led q (o .0) ∙ l .1,
     keep-points p q (o .0) (l .2),
-    keep-succ q t (o .1 .0) (omega (arith, l .0 .st)) (omega (arith, l .0 .st)) (l .3),
+    keep-succ q t (o .1 .0) (omega (arith, l .0 .state)) (omega (arith, l .0 .state)) (l .3),
     keep-plain t 2 p (o .1 .0) (l .4),
   )
   frame (stopForward q t p) o l = (
     keep-plain q 4 p (o .0) (l .0),
     k .led q (o .0) ∙ l .1,
     keep-points p t (o .1 .0) (l .2),
-    keep-succ q t (o .1 .0) (omega (arith, l .0 .st)) (omega (arith, l .0 .st)) (l .3),
+    keep-succ q t (o .1 .0) (omega (arith, l .0 .state)) (omega (arith, l .0 .state)) (l .3),
     keep-plain t 2 p (o .1 .0) (l .4),
   )
   frame (leaveDone q t) o l = keep-linked t 2 (o .0) l

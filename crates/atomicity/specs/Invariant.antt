@@ -6,15 +6,17 @@ use mathlib.Core.List.{List, [], _∷_}
 use Prim.Native.Nat.{ℕ, _+_, _≤_, _<_}
 use lib.Dec.{T}
 use Rattle.lists.specs.Members.{Mem, times}
+use Rattle.protocol.specs.declared.Message.{Message}
+use Rattle.protocol.specs.Kinds.{question, note}
 use Rattle.atomicity.specs.Neighbours.{PredL}
 
 -- A hub's row without succ. succ stands apart: it is the one word that a message changes at a hub that it has not locked.
 pub record Core : Type 0 where
-  pub st : ℕ
+  pub state : ℕ
   pub lock : ℕ
   pub flag : ℕ
   pub pred : ℕ
-  pub oldp : ℕ
+  pub oldpred : ℕ
 
 -- All hubs, and the ledger: led h is 1 for a member and 0 for the others.
 pub record Hubs : Type 0 where
@@ -24,25 +26,25 @@ pub record Hubs : Type 0 where
 
 -- The rows that a step writes, but for succ. 255 is none.
 abbrev pub taken : Core → ℕ → Core
-taken x c = record { st = c; lock = 1; flag = x .flag; pred = x .pred; oldp = x .oldp }
+taken x c = record { state = c; lock = 1; flag = x .flag; pred = x .pred; oldpred = x .oldpred }
 
 abbrev pub free : Core → ℕ → Core
-free x c = record { st = c; lock = 0; flag = x .flag; pred = x .pred; oldp = x .oldp }
+free x c = record { state = c; lock = 0; flag = x .flag; pred = x .pred; oldpred = x .oldpred }
 
 abbrev pub turned : Core → ℕ → Core
-turned x c = record { st = c; lock = x .lock; flag = x .flag; pred = x .pred; oldp = x .oldp }
+turned x c = record { state = c; lock = x .lock; flag = x .flag; pred = x .pred; oldpred = x .oldpred }
 
 abbrev pub between : Core → ℕ → ℕ → Core
-between x c p = record { st = c; lock = x .lock; flag = x .flag; pred = p; oldp = x .oldp }
+between x c p = record { state = c; lock = x .lock; flag = x .flag; pred = p; oldpred = x .oldpred }
 
 abbrev pub flagged : Core → ℕ → Core
-flagged x a = record { st = x .st; lock = 1; flag = 1; pred = a; oldp = x .pred }
+flagged x a = record { state = x .state; lock = 1; flag = 1; pred = a; oldpred = x .pred }
 
 abbrev pub acked : Core → Core
-acked x = record { st = x .st; lock = 0; flag = 0; pred = x .pred; oldp = 255 }
+acked x = record { state = x .state; lock = 0; flag = 0; pred = x .pred; oldpred = 255 }
 
-abbrev pub outside : Core → Core
-outside x = record { st = 0; lock = 0; flag = x .flag; pred = 255; oldp = x .oldp }
+abbrev pub departed : Core → Core
+departed x = record { state = 0; lock = 0; flag = x .flag; pred = 255; oldpred = x .oldpred }
 
 -- A waiting message with its participants. a joins between p and t; q leaves from between p and t.
 pub data Msg : Type 0 where
@@ -62,38 +64,27 @@ pub data Msg : Type 0 where
   leaveDone : (q t : ℕ) → Msg
 
 -- the message as the record has it
-pub record Raw : Type 0 where
-  pub kind : ℕ
-  pub src : ℕ
-  pub dst : ℕ
-  pub a : ℕ
-  pub b : ℕ
-  pub hops : ℕ
-
-abbrev pub raw : ℕ → ℕ → ℕ → ℕ → Raw
-raw k x y a = record { kind = k; src = x; dst = y; a = a; b = 0; hops = 0 }
-
-abbrev pub erase : Msg → Raw
-erase (lookup x y v k hops) = record { kind = 1; src = x; dst = y; a = v; b = k; hops = hops }
-erase (join x y a) = raw 2 x y a
-erase (joinRetry x a) = raw 3 x a 0
-erase (joinPoint a t p) = raw 4 t a p
-erase (newSucc a t p) = raw 5 a p 0
-erase (newSuccAck a t p) = raw 6 p t a
-erase (joinDone a t) = raw 7 t a 0
-erase (leaveReq q y) = raw 8 q y 0
-erase (leaveRetry x q) = raw 9 x q 0
-erase (leaveGrant q t) = raw 10 t q 0
-erase (leavePoint q t p) = raw 11 q t p
-erase (updateSucc q t p) = raw 12 t p 0
-erase (stopForward q t p) = raw 13 p q 0
-erase (leaveDone q t) = raw 14 q t 0
+abbrev pub erase : Msg → Message
+erase (lookup x y v k hops) = question x y v k hops
+erase (join x y a) = note 2 x y a
+erase (joinRetry x a) = note 3 x a 0
+erase (joinPoint a t p) = note 4 t a p
+erase (newSucc a t p) = note 5 a p 0
+erase (newSuccAck a t p) = note 6 p t a
+erase (joinDone a t) = note 7 t a 0
+erase (leaveReq q y) = note 8 q y 0
+erase (leaveRetry x q) = note 9 x q 0
+erase (leaveGrant q t) = note 10 t q 0
+erase (leavePoint q t p) = note 11 q t p
+erase (updateSucc q t p) = note 12 t p 0
+erase (stopForward q t p) = note 13 p q 0
+erase (leaveDone q t) = note 14 q t 0
 
 abbrev pub from : Msg → ℕ
-from m = erase m .src
+from m = erase m .from
 
 abbrev pub to : Msg → ℕ
-to m = erase m .dst
+to m = erase m .to
 
 -- the hubs whose lock the message carries
 abbrev pub owners : Msg → List ℕ
@@ -118,35 +109,35 @@ held (m ∷ ms) h = times (owners m) h + held ms h
 
 -- p is in the ring and its succ is h
 pub record Points (S : Hubs) (p h : ℕ) : Type 0 where
-  pub low : 2 ≤ S .core p .st
-  pub high : S .core p .st ≤ 3
+  pub low : 2 ≤ S .core p .state
+  pub high : S .core p .state ≤ 3
   pub at : S .succ p ≡ h
 
 -- h in state c, without a newcomer before it, its pred p
 pub record Plain (S : Hubs) (h c p : ℕ) : Type 0 where
-  pub st : S .core h .st ≡ c
+  pub state : S .core h .state ≡ c
   pub flag : S .core h .flag ≡ 0
   pub pred : S .core h .pred ≡ p
 
 -- t sends what comes from p on to the newcomer a
 pub record Flagged (S : Hubs) (t a p : ℕ) : Type 0 where
-  pub st : S .core t .st ≡ 2
+  pub state : S .core t .state ≡ 2
   pub flag : S .core t .flag ≡ 1
   pub pred : S .core t .pred ≡ a
-  pub oldp : S .core t .oldp ≡ p
+  pub oldpred : S .core t .oldpred ≡ p
 
 -- h in state c, and its pred points to it
 pub record Linked (S : Hubs) (h c : ℕ) : Type 0 where
-  pub st : S .core h .st ≡ c
+  pub state : S .core h .state ≡ c
   pub flag : S .core h .flag ≡ 0
   pub back : Points S (S .core h .pred) h
 
 -- what holds of the participants while the message waits
 abbrev pub Loc : Hubs → Msg → Type 0
 Loc S (lookup x y v k hops) = Unit {0}
-Loc S (join x y a) = (S .core a .st ≡ 1) × (S .led a ≡ 0)
-Loc S (joinRetry x a) = (S .core a .st ≡ 1) × (S .led a ≡ 0)
-Loc S (joinPoint a t p) = (S .core a .st ≡ 1) × (S .led a ≡ 1) × Flagged S t a p × Points S p t
+Loc S (join x y a) = (S .core a .state ≡ 1) × (S .led a ≡ 0)
+Loc S (joinRetry x a) = (S .core a .state ≡ 1) × (S .led a ≡ 0)
+Loc S (joinPoint a t p) = (S .core a .state ≡ 1) × (S .led a ≡ 1) × Flagged S t a p × Points S p t
 Loc S (newSucc a t p) = Plain S a 2 p × (S .succ a ≡ t) × Flagged S t a p × Points S p t
 Loc S (newSuccAck a t p) = Plain S a 2 p × (S .succ a ≡ t) × Flagged S t a p × Points S p a
 Loc S (joinDone a t) = Linked S a 2
@@ -160,23 +151,23 @@ Loc S (leaveDone q t) = Linked S t 2
 
 -- a hub that nobody has locked
 abbrev pub Idle : Hubs → ℕ → Type 0
-Idle S h = (S .core h .st ≡ 0) ⊎ Linked S h 2
+Idle S h = (S .core h .state ≡ 0) ⊎ Linked S h 2
 
 -- h's succ is in the ring, and knows h while h is a member
 pub record Fwd (S : Hubs) (h : ℕ) : Type 0 where
-  pub low : 2 ≤ S .core (S .succ h) .st
-  pub high : S .core (S .succ h) .st ≤ 4
+  pub low : 2 ≤ S .core (S .succ h) .state
+  pub high : S .core (S .succ h) .state ≤ 4
   pub knows : S .led h ≡ 1
-      → (S .core (S .succ h) .pred ≡ h) ⊎ ((S .core (S .succ h) .flag ≡ 1) × (S .core (S .succ h) .oldp ≡ h))
+      → (S .core (S .succ h) .pred ≡ h) ⊎ ((S .core (S .succ h) .flag ≡ 1) × (S .core (S .succ h) .oldpred ≡ h))
 
 -- the flag stands in state 2 alone
 abbrev pub Flags : Core → Type 0
-Flags c = (c .flag ≡ 0) ⊎ ((c .flag ≡ 1) × (c .st ≡ 2))
+Flags c = (c .flag ≡ 0) ⊎ ((c .flag ≡ 1) × (c .state ≡ 2))
 
 -- members by state
 pub record Member (c : Core) (l : ℕ) : Type 0 where
-  pub out : c .st ≡ 0 → l ≡ 0
-  pub inside : 2 ≤ c .st → c .st ≤ 3 → l ≡ 1
+  pub out : c .state ≡ 0 → l ≡ 0
+  pub inside : 2 ≤ c .state → c .state ≤ 3 → l ≡ 1
 
 -- questions on the way, and requests to leave
 abbrev pub asks : Msg → Bool
@@ -221,8 +212,8 @@ pub record Closed (x y : ℕ) (v : List Msg) : Type 0 where
   pub dst : to last ≡ y
 
 pub record Open (S : Hubs) (x y : ℕ) : Type 0 where
-  pub low : 2 ≤ S .core x .st
-  pub high : S .core x .st ≤ 4
+  pub low : 2 ≤ S .core x .state
+  pub high : S .core x .state ≤ 4
   pub at : S .succ x ≡ y
 
 pub record Back (S : Hubs) (x y : ℕ) (v : List Msg) : Type 0 where
@@ -244,10 +235,10 @@ pub record Inv (n : ℕ) (id : ℕ → ℕ) (c : ℕ) (S : Hubs) (g : List ℕ) 
   pub count : (h : ℕ) → S .core h .lock ≡ times g h + held ms h
   pub idle : (h : ℕ) → S .core h .lock ≡ 0 → Idle S h
   pub loc : (m : Msg) → Mem m ms → Loc S m
-  pub fwd : (h : ℕ) → 2 ≤ S .core h .st → S .core h .st ≤ 4 → Fwd S h
+  pub fwd : (h : ℕ) → 2 ≤ S .core h .state → S .core h .state ≤ 4 → Fwd S h
   pub flags : (h : ℕ) → Flags (S .core h)
   pub member : (h : ℕ) → Member (S .core h) (S .led h)
-  pub next : (h : ℕ) → 2 ≤ S .core h .st → S .led h ≡ 1 → PredL n id (S .led) (S .core h .pred) h
+  pub next : (h : ℕ) → 2 ≤ S .core h .state → S .led h ≡ 1 → PredL n id (S .led) (S .core h .pred) h
   pub entry : (a t p : ℕ) → Mem (joinPoint a t p) ms → PredL n id (S .led) p a
   pub fifo : Fifo S ms
-  pub below : (h : ℕ) → 1 ≤ S .core h .st → h < c
+  pub below : (h : ℕ) → 1 ≤ S .core h .state → h < c

@@ -10,11 +10,11 @@ use Rattle.atomicity.specs.Invariant.{Hubs, free, between, acked, Msg, P
 use Rattle.atomicity.specs.Invariant.{joinRetry, joinPoint, newSucc, newSuccAck, joinDone}
 use Rattle.atomicity.specs.Frame.{points-at, plain-at, flagged-at}
 use Rattle.atomicity.specs.OneStep.{closed-by, no-join, Clear, take-out, apart-same, locked, distinct}
-use Rattle.atomicity.specs.Calm.{Row, points-row, fwd-same, Serves, calm, busy}
+use Rattle.atomicity.specs.Calm.{Rewritten, points-row, fwd-same, Serves, calm, busy}
 
 -- a hub in the ring is set free: the end of a join, and of a leave
 pub release : {n : ℕ} {id : ℕ → ℕ} {c : ℕ} {S S′ : Hubs} {R : List Msg} {a : ℕ} → Inv n id c S (a ∷ []) R
-    → Row S S′ a (free (S .core a) (S .core a .st)) (S .succ a) → ((h : ℕ) → S′ .led h ≡ S .led h) → Linked S a 2 → Inv n id c S′ [] (R ++ [])
+    → Rewritten S S′ a (free (S .core a) (S .core a .state)) (S .succ a) → ((h : ℕ) → S′ .led h ≡ S .led h) → Linked S a 2 → Inv n id c S′ [] (R ++ [])
 release {a = a} i w ls L =
     calm {is = a ∷ []} i w ls (record {
       apart = apart-same i;
@@ -25,7 +25,7 @@ release {a = a} i w ls L =
       frame-self = λ o. absurd (o .0 refl);
       frame-succ = λ l u o. refl;
       frame-stay = λ l u o. (l, u);
-      idle = ((λ e. inr (record { st = rw (w .core) (L .st); flag = rw (w .core) (L .flag); back = rw (w .core) (points-row w _ a refl (λ l u. (l, u)) (L .back)) })), tt);
+      idle = ((λ e. inr (record { state = rw (w .core) (L .state); flag = rw (w .core) (L .flag); back = rw (w .core) (points-row w _ a refl (λ l u. (l, u)) (L .back)) })), tt);
       fresh = tt;
       fwd = λ l u. fwd-same i w l u (λ e x. x);
       served = λ h e l u x. x;
@@ -41,7 +41,7 @@ release {a = a} i w ls L =
 
 module _ (n : ℕ) (id : ℕ → ℕ) (small : (h : ℕ) → id h < n) (c : ℕ) (S S′ : Hubs) (s t : List Msg) where
   pub new-succ : (a b p : ℕ) → Clear (newSucc a b p) s → Inv n id c S [] (s ++ (newSucc a b p ∷ t))
-      → Row S S′ p (S .core p) a → ((h : ℕ) → S′ .led h ≡ S .led h)
+      → Rewritten S S′ p (S .core p) a → ((h : ℕ) → S′ .led h ≡ S .led h)
       → Inv n id c S′ [] ((s ++ t) ++ (newSuccAck a b p ∷ []))
   new-succ a b p cl j w ls =
       calm {is = a ∷ b ∷ []} i w ls (record {
@@ -63,7 +63,7 @@ module _ (n : ℕ) (id : ℕ → ℕ) (small : (h : ℕ) → id h < n) (c : ℕ)
           ),
           tt,
         );
-        fwd = λ l u. rw (all a) (omega (arith, L .0 .st), omega (arith, L .0 .st), λ _. inl (L .0 .pred));
+        fwd = λ l u. rw (all a) (omega (arith, L .0 .state), omega (arith, L .0 .state), λ _. inl (L .0 .pred));
         served = λ h e l u x. x;
         flags = i .flags p;
         member = i .member p;
@@ -89,11 +89,11 @@ module _ (n : ℕ) (id : ℕ → ℕ) (small : (h : ℕ) → id h < n) (c : ℕ)
 
       np : p ≢ a
       np = pred-other n id small
-          (rw (L .0 .pred) at (i .next a (omega (arith, L .0 .st)) (i .member a .inside (omega (arith, L .0 .st)) (omega (arith, L .0 .st)))))
-          (i .member b .inside (omega (arith, L .2 .st)) (omega (arith, L .2 .st))) (λ e. distinct i (sym e))
+          (rw (L .0 .pred) at (i .next a (omega (arith, L .0 .state)) (i .member a .inside (omega (arith, L .0 .state)) (omega (arith, L .0 .state)))))
+          (i .member b .inside (omega (arith, L .2 .state)) (omega (arith, L .2 .state))) (λ e. distinct i (sym e))
 
   pub join-retry : (x a : ℕ) → Clear (joinRetry x a) s → Inv n id c S [] (s ++ (joinRetry x a ∷ t))
-      → Row S S′ a (free (S .core a) 0) (S .succ a) → ((h : ℕ) → S′ .led h ≡ S .led h)
+      → Rewritten S S′ a (free (S .core a) 0) (S .succ a) → ((h : ℕ) → S′ .led h ≡ S .led h)
       → Inv n id c S′ [] ((s ++ t) ++ [])
   join-retry x a cl j w ls =
       calm {is = a ∷ []} i w ls (record {
@@ -129,7 +129,7 @@ module _ (n : ℕ) (id : ℕ → ℕ) (small : (h : ℕ) → id h < n) (c : ℕ)
       flag = elim (i .flags a) [ inl e ↦ e | inr k ↦ absurd (omega (arith, L .0)) ]
 
   pub join-point : (a b p : ℕ) → Clear (joinPoint a b p) s → Inv n id c S [] (s ++ (joinPoint a b p ∷ t))
-      → Row S S′ a (between (S .core a) 2 p) b
+      → Rewritten S S′ a (between (S .core a) 2 p) b
       → ((h : ℕ) → S′ .led h ≡ S .led h)
       → Inv n id c S′ [] ((s ++ t) ++ (newSucc a b p ∷ []))
   join-point a b p cl j w ls =
@@ -145,14 +145,14 @@ module _ (n : ℕ) (id : ℕ → ℕ) (small : (h : ℕ) → id h < n) (c : ℕ)
         idle = (busy _ a (w .core) (locked i a (inl refl)), (busy _ b offb (locked i b (inr (inl refl))), tt));
         fresh = (
           (
-            record { st = rw (w .core); flag = rw (w .core) flag; pred = rw (w .core) },
+            record { state = rw (w .core); flag = rw (w .core) flag; pred = rw (w .core) },
             w .succ,
             flagged-at b a p offb (L .2),
             points-at p b (w .off p np) (w .offs p np) (L .3),
           ),
           tt,
         );
-        fwd = λ l u. rw offb (omega (arith, L .2 .st), omega (arith, L .2 .st), λ _. inl (L .2 .pred));
+        fwd = λ l u. rw offb (omega (arith, L .2 .state), omega (arith, L .2 .state), λ _. inl (L .2 .pred));
         served = λ h e l u x. absurd (omega (arith, x .0, L .0));
         flags = inl flag;
         member = record { out = λ e. absurd (omega arith); inside = λ l u. L .1 };
@@ -177,10 +177,10 @@ module _ (n : ℕ) (id : ℕ → ℕ) (small : (h : ℕ) → id h < n) (c : ℕ)
       offb = w .off b (λ e. distinct i (sym e))
 
       np : p ≢ a
-      np e = omega (arith, L .0, L .3 .low, ap (λ x. S .core x .st) e)
+      np e = omega (arith, L .0, L .3 .low, ap (λ x. S .core x .state) e)
 
   pub new-succ-ack : (a b p : ℕ) → Clear (newSuccAck a b p) s → Inv n id c S [] (s ++ (newSuccAck a b p ∷ t))
-      → Row S S′ b (acked (S .core b)) (S .succ b)
+      → Rewritten S S′ b (acked (S .core b)) (S .succ b)
       → ((h : ℕ) → S′ .led h ≡ S .led h)
       → Inv n id c S′ [] ((s ++ t) ++ (joinDone a b ∷ []))
   new-succ-ack a b p cl j w ls =
@@ -195,7 +195,7 @@ module _ (n : ℕ) (id : ℕ → ℕ) (small : (h : ℕ) → id h < n) (c : ℕ)
         frame-stay = λ l u o. (l, u);
         idle = (
           busy _ a offa (locked i a (inl refl)),
-          ((λ e. inr (record { st = rw (w .core) (L .2 .st); flag = rw (w .core); back = rw (w .core, L .2 .pred) pa })), tt),
+          ((λ e. inr (record { state = rw (w .core) (L .2 .state); flag = rw (w .core); back = rw (w .core, L .2 .pred) pa })), tt),
         );
         fresh = (linked, tt);
         fwd = λ l u. fwd-same i w l u (serve b);
@@ -220,20 +220,20 @@ module _ (n : ℕ) (id : ℕ → ℕ) (small : (h : ℕ) → id h < n) (c : ℕ)
       offa = w .off a (distinct i)
 
       pa : Points S′ a b
-      pa = record { low = rw offa (omega (arith, L .0 .st)); high = rw offa (omega (arith, L .0 .st)); at = w .offs a (distinct i) ∙ L .1 }
+      pa = record { low = rw offa (omega (arith, L .0 .state)); high = rw offa (omega (arith, L .0 .state)); at = w .offs a (distinct i) ∙ L .1 }
 
       linked : Linked S′ a 2
-      linked = record { st = rw offa (L .0 .st); flag = rw offa (L .0 .flag); back = rw (offa, L .0 .pred) (points-row w p a refl (λ l u. (l, u)) (L .3)) }
+      linked = record { state = rw offa (L .0 .state); flag = rw offa (L .0 .flag); back = rw (offa, L .0 .pred) (points-row w p a refl (λ l u. (l, u)) (L .3)) }
 
       serve : (h : ℕ) → S .succ h ≡ b → Serves (S .core b) (S .led h) h → Serves (acked (S .core b)) (S .led h) h
       serve h e x = (x .0, x .1, λ m. go (x .2 m))
         where
-          go : (S .core b .pred ≡ h) ⊎ ((S .core b .flag ≡ 1) × (S .core b .oldp ≡ h)) → (S .core b .pred ≡ h) ⊎ ((_≡_ {A = ℕ} 0 1) × (255 ≡ h))
+          go : (S .core b .pred ≡ h) ⊎ ((S .core b .flag ≡ 1) × (S .core b .oldpred ≡ h)) → (S .core b .pred ≡ h) ⊎ ((_≡_ {A = ℕ} 0 1) × (255 ≡ h))
           go (inl k) = inl k
-          go (inr k) = absurd (distinct i (sym (L .3 .at) ∙ ap (S .succ) (sym (L .2 .oldp) ∙ k .1) ∙ e))
+          go (inr k) = absurd (distinct i (sym (L .3 .at) ∙ ap (S .succ) (sym (L .2 .oldpred) ∙ k .1) ∙ e))
 
   pub join-done : (a b : ℕ) → Clear (joinDone a b) s → Inv n id c S [] (s ++ (joinDone a b ∷ t))
-      → Row S S′ a (free (S .core a) (S .core a .st)) (S .succ a) → ((h : ℕ) → S′ .led h ≡ S .led h)
+      → Rewritten S S′ a (free (S .core a) (S .core a .state)) (S .succ a) → ((h : ℕ) → S′ .led h ≡ S .led h)
       → Inv n id c S′ [] ((s ++ t) ++ [])
   join-done a b cl j w ls = release i w ls L
     where

@@ -6,18 +6,18 @@ use Prim.Native.Nat.{ℕ, _≤_, _<_}
 use native.Mathlib.Decide.{decLe}
 use native.Mathlib.Omega.{arith}
 use Rattle.lists.specs.Members.{mem-mid, by-row, ind-same, ind-ne}
-use Rattle.atomicity.specs.Invariant.{Hubs, taken, free, turned, outside, Msg, Linked, Loc, Idle, Fwd, Open, Inv}
+use Rattle.atomicity.specs.Invariant.{Hubs, taken, free, turned, departed, Msg, Linked, Loc, Idle, Fwd, Open, Inv}
 use Rattle.atomicity.specs.Invariant.{leaveReq, leaveRetry, leaveGrant, leavePoint, updateSucc, stopForward, leaveDone}
 use Rattle.atomicity.specs.Frame.{points-at, plain-at, linked-at}
 use Rattle.atomicity.specs.OneStep.{closed-by, no-join, Clear, take-out, apart-same, apart-more, locked, distinct}
 use Rattle.atomicity.specs.Roles.{carried, straight}
-use Rattle.atomicity.specs.Calm.{Row, points-row, fwd-same, Serves, calm, busy, sent}
+use Rattle.atomicity.specs.Calm.{Rewritten, points-row, fwd-same, Serves, calm, busy, sent}
 use Rattle.atomicity.specs.Joins.{release}
 
 module _ (n : ℕ) (id : ℕ → ℕ) (small : (h : ℕ) → id h < n) (c : ℕ) (S S′ : Hubs) (s t : List Msg) where
   -- LEAVEREQ at a free hub
   pub leave-req : (q b : ℕ) → Clear (leaveReq q b) s → Inv n id c S [] (s ++ (leaveReq q b ∷ t)) → S .core b .lock ≡ 0
-      → Row S S′ b (taken (S .core b) (S .core b .st)) (S .succ b) → ((h : ℕ) → S′ .led h ≡ S .led h)
+      → Rewritten S S′ b (taken (S .core b) (S .core b .state)) (S .succ b) → ((h : ℕ) → S′ .led h ≡ S .led h)
       → Inv n id c S′ [] ((s ++ t) ++ (leaveGrant q b ∷ []))
   leave-req q b cl j z w ls =
       calm {is = b ∷ q ∷ []} i w ls (record {
@@ -34,7 +34,7 @@ module _ (n : ℕ) (id : ℕ → ℕ) (small : (h : ℕ) → id h < n) (c : ℕ)
           (
             linked-at q 3 offq (L .0) (points-row w _ q refl (λ l u. (l, u))),
             w .offs q nq ∙ o .at,
-            record { st = rw (w .core) (B .st); flag = rw (w .core) (B .flag); pred = rw (w .core) (known (f .knows lq)) },
+            record { state = rw (w .core) (B .state); flag = rw (w .core) (B .flag); pred = rw (w .core) (known (f .knows lq)) },
           ),
           tt,
         );
@@ -63,7 +63,7 @@ module _ (n : ℕ) (id : ℕ → ℕ) (small : (h : ℕ) → id h < n) (c : ℕ)
       offq = w .off q nq
 
       lq : S .led q ≡ 1
-      lq = i .member q .inside (omega (arith, L .0 .st)) (omega (arith, L .0 .st))
+      lq = i .member q .inside (omega (arith, L .0 .state)) (omega (arith, L .0 .state))
 
       o : Open S q b
       o = straight s (leaveReq q b) t j cl tt z (L .0 .flag)
@@ -74,7 +74,7 @@ module _ (n : ℕ) (id : ℕ → ℕ) (small : (h : ℕ) → id h < n) (c : ℕ)
       B : Linked S b 2
       B = elim (i .idle b z) [ inl e ↦ absurd (omega (arith, rw (o .at) at (f .low))) | inr x ↦ x ]
 
-      known : (S .core (S .succ q) .pred ≡ q) ⊎ ((S .core (S .succ q) .flag ≡ 1) × (S .core (S .succ q) .oldp ≡ q)) → S .core b .pred ≡ q
+      known : (S .core (S .succ q) .pred ≡ q) ⊎ ((S .core (S .succ q) .flag ≡ 1) × (S .core (S .succ q) .oldpred ≡ q)) → S .core b .pred ≡ q
       known (inl e) = rw (o .at) at e
       known (inr e) = absurd (omega (arith, B .flag, rw (o .at) at (e .0)))
 
@@ -89,7 +89,7 @@ module _ (n : ℕ) (id : ℕ → ℕ) (small : (h : ℕ) → id h < n) (c : ℕ)
   })
 
   pub leave-retry : (x q : ℕ) → Clear (leaveRetry x q) s → Inv n id c S [] (s ++ (leaveRetry x q ∷ t))
-      → Row S S′ q (free (S .core q) 2) (S .succ q) → ((h : ℕ) → S′ .led h ≡ S .led h)
+      → Rewritten S S′ q (free (S .core q) 2) (S .succ q) → ((h : ℕ) → S′ .led h ≡ S .led h)
       → Inv n id c S′ [] ((s ++ t) ++ [])
   leave-retry x q cl j w ls =
       calm {is = q ∷ []} i w ls (record {
@@ -101,14 +101,14 @@ module _ (n : ℕ) (id : ℕ → ℕ) (small : (h : ℕ) → id h < n) (c : ℕ)
         frame-self = λ o. absurd (o .0 refl);
         frame-succ = λ l u o. refl;
         frame-stay = λ l u o. omega arith;
-        idle = ((λ e. inr (record { st = rw (w .core); flag = rw (w .core) (L .flag); back = rw (w .core) (points-row w _ q refl (λ l u. omega arith) (L .back)) })), tt);
+        idle = ((λ e. inr (record { state = rw (w .core); flag = rw (w .core) (L .flag); back = rw (w .core) (points-row w _ q refl (λ l u. omega arith) (L .back)) })), tt);
         fresh = tt;
-        fwd = λ l u. fwd-same i w (omega (arith, L .st)) (omega (arith, L .st)) (λ e. serve q);
+        fwd = λ l u. fwd-same i w (omega (arith, L .state)) (omega (arith, L .state)) (λ e. serve q);
         served = λ h e l u. serve h;
         flags = inl (L .flag);
-        member = record { out = λ e. absurd (omega arith); inside = λ l u. i .member q .inside (omega (arith, L .st)) (omega (arith, L .st)) };
-        next = λ l. i .next q (omega (arith, L .st));
-        below = λ l. i .below q (omega (arith, L .st));
+        member = record { out = λ e. absurd (omega arith); inside = λ l u. i .member q .inside (omega (arith, L .state)) (omega (arith, L .state)) };
+        next = λ l. i .next q (omega (arith, L .state));
+        below = λ l. i .below q (omega (arith, L .state));
         onward = λ l u. inr (omega arith, omega arith, refl);
         back = λ f. absurd (omega (arith, L .flag));
         nojoin = λ a t p m. m;
@@ -125,7 +125,7 @@ module _ (n : ℕ) (id : ℕ → ℕ) (small : (h : ℕ) → id h < n) (c : ℕ)
       serve h x = (omega arith, omega arith, x .2)
 
   pub leave-grant : (q b : ℕ) → Clear (leaveGrant q b) s → Inv n id c S [] (s ++ (leaveGrant q b ∷ t))
-      → Row S S′ q (turned (S .core q) 4) (S .succ q) → ((h : ℕ) → S′ .led h ≡ S .led h)
+      → Rewritten S S′ q (turned (S .core q) 4) (S .succ q) → ((h : ℕ) → S′ .led h ≡ S .led h)
       → Inv n id c S′ [] ((s ++ t) ++ (leavePoint q b (S .core q .pred) ∷ []))
   leave-grant q b cl j w ls =
       calm {is = q ∷ b ∷ []} i w ls (record {
@@ -140,20 +140,20 @@ module _ (n : ℕ) (id : ℕ → ℕ) (small : (h : ℕ) → id h < n) (c : ℕ)
         idle = (busy _ q (w .core) (locked i q (inl refl)), (busy _ b offb (locked i b (inr (inl refl))), tt));
         fresh = (
           (
-            record { st = rw (w .core); flag = rw (w .core) (L .0 .flag); pred = rw (w .core) },
-            ls q ∙ i .member q .inside (omega (arith, L .0 .st)) (omega (arith, L .0 .st)),
+            record { state = rw (w .core); flag = rw (w .core) (L .0 .flag); pred = rw (w .core) },
+            ls q ∙ i .member q .inside (omega (arith, L .0 .state)) (omega (arith, L .0 .state)),
             points-at _ q (w .off _ np) (w .offs _ np) (L .0 .back),
             w .succ ∙ L .1,
             plain-at b 2 q offb (L .2),
           ),
           tt,
         );
-        fwd = λ l u. rw (L .1, offb) (omega (arith, L .2 .st), omega (arith, L .2 .st), λ _. inl (L .2 .pred));
+        fwd = λ l u. rw (L .1, offb) (omega (arith, L .2 .state), omega (arith, L .2 .state), λ _. inl (L .2 .pred));
         served = λ h e l u x. (omega arith, omega arith, x .2);
         flags = inl (L .0 .flag);
         member = record { out = λ e. absurd (omega arith); inside = λ l u. absurd (omega arith) };
-        next = λ l. i .next q (omega (arith, L .0 .st));
-        below = λ l. i .below q (omega (arith, L .0 .st));
+        next = λ l. i .next q (omega (arith, L .0 .state));
+        below = λ l. i .below q (omega (arith, L .0 .state));
         onward = λ l u. inr (omega arith, omega arith, refl);
         back = λ f. absurd (omega (arith, L .0 .flag));
         nojoin = no-join (leavePoint q b (S .core q .pred)) (λ e. omega arith);
@@ -173,7 +173,7 @@ module _ (n : ℕ) (id : ℕ → ℕ) (small : (h : ℕ) → id h < n) (c : ℕ)
       np e = distinct i (sym (L .0 .back .at) ∙ ap (S .succ) e ∙ L .1)
 
   pub update-succ : (q b p : ℕ) → Clear (updateSucc q b p) s → Inv n id c S [] (s ++ (updateSucc q b p ∷ t))
-      → Row S S′ p (S .core p) b → ((h : ℕ) → S′ .led h ≡ S .led h)
+      → Rewritten S S′ p (S .core p) b → ((h : ℕ) → S′ .led h ≡ S .led h)
       → Inv n id c S′ [] ((s ++ t) ++ (stopForward q b p ∷ []))
   update-succ q b p cl j w ls =
       calm {is = q ∷ b ∷ []} i w ls (record {
@@ -191,12 +191,12 @@ module _ (n : ℕ) (id : ℕ → ℕ) (small : (h : ℕ) → id h < n) (c : ℕ)
             plain-at q 4 p (all q) (L .0),
             ls q ∙ L .1,
             record { low = rw (w .core) (L .2 .low); high = rw (w .core) (L .2 .high); at = w .succ },
-            w .offs q (λ e. omega (arith, L .0 .st, L .2 .high, ap (λ x. S .core x .st) e)) ∙ L .3,
+            w .offs q (λ e. omega (arith, L .0 .state, L .2 .high, ap (λ x. S .core x .state) e)) ∙ L .3,
             plain-at b 2 p (all b) (L .4),
           ),
           tt,
         );
-        fwd = λ l u. rw (all b) (omega (arith, L .4 .st), omega (arith, L .4 .st), λ _. inl (L .4 .pred));
+        fwd = λ l u. rw (all b) (omega (arith, L .4 .state), omega (arith, L .4 .state), λ _. inl (L .4 .pred));
         served = λ h e l u x. x;
         flags = i .flags p;
         member = i .member p;
@@ -218,7 +218,7 @@ module _ (n : ℕ) (id : ℕ → ℕ) (small : (h : ℕ) → id h < n) (c : ℕ)
       all = by-row p (w .core) (w .off)
 
   pub stop-forward : (q b p : ℕ) → Clear (stopForward q b p) s → Inv n id c S [] (s ++ (stopForward q b p ∷ t))
-      → Row S S′ q (outside (S .core q)) 255 → ((h : ℕ) → S′ .led h ≡ S .led h)
+      → Rewritten S S′ q (departed (S .core q)) 255 → ((h : ℕ) → S′ .led h ≡ S .led h)
       → Inv n id c S′ [] ((s ++ t) ++ (leaveDone q b ∷ []))
   stop-forward q b p cl j w ls =
       calm {is = q ∷ b ∷ []} i w ls (record {
@@ -229,14 +229,14 @@ module _ (n : ℕ) (id : ℕ → ℕ) (small : (h : ℕ) → id h < n) (c : ℕ)
         frame-core = λ o. absurd (o .0 refl);
         frame-self = λ o. absurd (o .0 refl);
         frame-succ = λ l u o. absurd (o .1 .0 (L .3));
-        frame-stay = λ l u o. absurd (omega (arith, L .0 .st));
+        frame-stay = λ l u o. absurd (omega (arith, L .0 .state));
         idle = ((λ e. inl (rw (w .core))), (busy _ b offb (locked i b (inr (inl refl))), tt));
         fresh = (
-          record { st = rw offb (L .4 .st); flag = rw offb (L .4 .flag); back = rw (offb, L .4 .pred) (points-at p b (w .off p np) (w .offs p np) (L .2)) },
+          record { state = rw offb (L .4 .state); flag = rw offb (L .4 .flag); back = rw (offb, L .4 .pred) (points-at p b (w .off p np) (w .offs p np) (L .2)) },
           tt,
         );
         fwd = λ l u. absurd (omega arith);
-        served = λ h e l u x. absurd (alone h e l u x (decLe (S .core h .st) 3));
+        served = λ h e l u x. absurd (alone h e l u x (decLe (S .core h .state) 3));
         flags = inl (L .0 .flag);
         member = record { out = λ e. L .1; inside = λ l u. absurd (omega arith) };
         next = λ l e. absurd (omega arith);
@@ -257,24 +257,24 @@ module _ (n : ℕ) (id : ℕ → ℕ) (small : (h : ℕ) → id h < n) (c : ℕ)
       offb = w .off b (λ e. distinct i (sym e))
 
       np : p ≢ q
-      np e = omega (arith, L .0 .st, L .2 .high, ap (λ x. S .core x .st) e)
+      np e = omega (arith, L .0 .state, L .2 .high, ap (λ x. S .core x .state) e)
 
       -- nobody points to q any more
-      alone : (h : ℕ) → S .succ h ≡ q → 2 ≤ S .core h .st → S .core h .st ≤ 4 → Serves (S .core q) (S .led h) h → Dec (S .core h .st ≤ 3) → ⊥
+      alone : (h : ℕ) → S .succ h ≡ q → 2 ≤ S .core h .state → S .core h .state ≤ 4 → Serves (S .core q) (S .led h) h → Dec (S .core h .state ≤ 3) → ⊥
       alone h e l u x (yes k) = go (x .2 (i .member h .inside l k))
         where
-          go : (S .core q .pred ≡ h) ⊎ ((S .core q .flag ≡ 1) × (S .core q .oldp ≡ h)) → ⊥
+          go : (S .core q .pred ≡ h) ⊎ ((S .core q .flag ≡ 1) × (S .core q .oldpred ≡ h)) → ⊥
           go (inl y) = distinct i (sym e ∙ ap (S .succ) (sym y ∙ L .0 .pred) ∙ L .2 .at)
           go (inr y) = omega (arith, L .0 .flag)
       alone h e l u x (no k) =
-          omega (arith, L .0 .st, ap (λ y. S .core y .st) e, carried j h idle .role .four (omega arith))
+          omega (arith, L .0 .state, ap (λ y. S .core y .state) e, carried j h idle .role .four (omega arith))
         where
           idle : Idle S h → ⊥
           idle (inl z) = omega arith
-          idle (inr z) = omega (arith, z .st)
+          idle (inr z) = omega (arith, z .state)
 
   pub leave-done : (q b : ℕ) → Clear (leaveDone q b) s → Inv n id c S [] (s ++ (leaveDone q b ∷ t))
-      → Row S S′ b (free (S .core b) (S .core b .st)) (S .succ b) → ((h : ℕ) → S′ .led h ≡ S .led h)
+      → Rewritten S S′ b (free (S .core b) (S .core b .state)) (S .succ b) → ((h : ℕ) → S′ .led h ≡ S .led h)
       → Inv n id c S′ [] ((s ++ t) ++ [])
   leave-done q b cl j w ls =
       release (take-out s (leaveDone q b) t cl j) w ls (j .loc (leaveDone q b) (mem-mid s (leaveDone q b) t))

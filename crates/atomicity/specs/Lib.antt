@@ -1,4 +1,5 @@
 pub mod Neighbours
+pub mod Members
 pub mod Invariant
 pub mod Frame
 pub mod OneStep
@@ -7,3 +8,7 @@ pub mod Roles
 pub mod Joins
 pub mod Leaves
 pub mod Moves
+pub mod Good
+pub mod Deliver
+pub mod Commands
+pub mod Preserved

@@ -133,23 +133,23 @@ module _ {n : ℕ} {id : ℕ → ℕ} {c : ℕ} where
 pub record Change (n : ℕ) (id : ℕ → ℕ) (c : ℕ) (S S′ : Hubs) (g is : List ℕ) (R new : List Msg) (r : ℕ) : Type 0 where
   pub off : (h : ℕ) → h ≢ r → S′ .core h ≡ S .core h
   pub offs : (h : ℕ) → h ≢ r → S′ .succ h ≡ S .succ h
-  pub ledup : (h : ℕ) → 2 ≤ S .core h .st → S′ .led h ≡ 1 → S .led h ≡ 1
+  pub ledup : (h : ℕ) → 2 ≤ S .core h .state → S′ .led h ≡ 1 → S .led h ≡ 1
   pub apart : (h : ℕ) → times is h + held R h ≤ 1
   pub lock-r : S′ .core r .lock ≤ 1
   pub balance : (h : ℕ) → S′ .core h .lock + times g h ≡ S .core h .lock + held new h
   pub keeps : Keeps S S′ is
   pub idle : All (λ h. S′ .core h .lock ≡ 0 → Idle S′ h) is
   pub fresh : All (Loc S′) new
-  pub fwd-r : 2 ≤ S′ .core r .st → S′ .core r .st ≤ 4 → Fwd S′ r
-  pub fwd-to : (h : ℕ) → h ≢ r → S .succ h ≡ r → 2 ≤ S .core h .st → S .core h .st ≤ 4 → Fwd S h → Fwd S′ h
+  pub fwd-r : 2 ≤ S′ .core r .state → S′ .core r .state ≤ 4 → Fwd S′ r
+  pub fwd-to : (h : ℕ) → h ≢ r → S .succ h ≡ r → 2 ≤ S .core h .state → S .core h .state ≤ 4 → Fwd S h → Fwd S′ h
   pub flags-r : Flags (S′ .core r)
   pub member : (h : ℕ) → Member (S′ .core h) (S′ .led h)
-  pub next : (h : ℕ) → 2 ≤ S′ .core h .st → S′ .led h ≡ 1 → PredL n id (S′ .led) (S′ .core h .pred) h
+  pub next : (h : ℕ) → 2 ≤ S′ .core h .state → S′ .led h ≡ 1 → PredL n id (S′ .led) (S′ .core h .pred) h
   pub entry : (a t p : ℕ) → Mem (joinPoint a t p) (R ++ new) → PredL n id (S′ .led) p a
   pub way-r : (y : ℕ) (v : List Msg) → Way S r y v → Way S′ r y (v ++ new)
   pub joins : (a t p : ℕ) → Mem (joinPoint a t p) new → t ≡ r
   pub fifo : Fifo S′ new
-  pub below-r : 1 ≤ S′ .core r .st → r < c
+  pub below-r : 1 ≤ S′ .core r .state → r < c
 
 module _ {n : ℕ} {id : ℕ → ℕ} {c : ℕ} {S S′ : Hubs} {g is : List ℕ} {R new : List Msg} {r : ℕ} (i : Inv n id c S g R) (d : Change n id c S S′ g is R new r) where
   others : (m : Msg) → Mem m R → All (Off is) (owners m)
@@ -162,14 +162,14 @@ module _ {n : ℕ} {id : ℕ → ℕ} {c : ℕ} {S S′ : Hubs} {g is : List ℕ
         go l (λ h. omega (arith, f h)),
       )
 
-  fwd-all : (h : ℕ) → 2 ≤ S′ .core h .st → S′ .core h .st ≤ 4 → Fwd S′ h
+  fwd-all : (h : ℕ) → 2 ≤ S′ .core h .state → S′ .core h .state ≤ 4 → Fwd S′ h
   fwd-all = by-row r (d .fwd-r) λ h ne l u.
       let e = d .off h ne in
-      let l′ : 2 ≤ S .core h .st = rw e at l in
-      let u′ : S .core h .st ≤ 4 = rw e at u in
+      let l′ : 2 ≤ S .core h .state = rw e at l in
+      let u′ : S .core h .state ≤ 4 = rw e at u in
       go h ne l′ u′ (ℕ-discrete (S .succ h) r) (i .fwd h l′ u′)
     where
-      go : (h : ℕ) → h ≢ r → 2 ≤ S .core h .st → S .core h .st ≤ 4 → Dec (S .succ h ≡ r) → Fwd S h → Fwd S′ h
+      go : (h : ℕ) → h ≢ r → 2 ≤ S .core h .state → S .core h .state ≤ 4 → Dec (S .succ h ≡ r) → Fwd S h → Fwd S′ h
       go h ne l u (yes e) f = d .fwd-to h ne e l u f
       go h ne l u (no e) f =
           let es = d .offs h ne in

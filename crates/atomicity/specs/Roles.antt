@@ -13,14 +13,14 @@ use Rattle.atomicity.specs.Invariant.{leaveReq, leaveRetry, leaveGrant, 
 use Rattle.atomicity.specs.OneStep.{held-mem, carrier, Clear, fifo-mid}
 
 pub record Role (S : Hubs) (m : Msg) (h : ℕ) : Type 0 where
-  pub some : 1 ≤ S .core h .st
-  pub most : S .core h .st ≤ 4
-  pub four : S .core h .st ≡ 4 → S .core (S .succ h) .st ≡ 2
-  pub flag : S .core h .flag ≡ 1 → (S .core (S .core h .pred) .st ≡ 2) ⊎ ((p : ℕ) × (m ≡ joinPoint (S .core h .pred) h p))
+  pub some : 1 ≤ S .core h .state
+  pub most : S .core h .state ≤ 4
+  pub four : S .core h .state ≡ 4 → S .core (S .succ h) .state ≡ 2
+  pub flag : S .core h .flag ≡ 1 → (S .core (S .core h .pred) .state ≡ 2) ⊎ ((p : ℕ) × (m ≡ joinPoint (S .core h .pred) h p))
 
 module _ (S : Hubs) (fl : (h : ℕ) → Flags (S .core h)) where
   -- states 1 and 3, and 2 with the flag down
-  low : {m : Msg} (h : ℕ) → 1 ≤ S .core h .st → S .core h .st ≤ 3 → (S .core h .st ≡ 2 → S .core h .flag ≡ 0) → Role S m h
+  low : {m : Msg} (h : ℕ) → 1 ≤ S .core h .state → S .core h .state ≤ 3 → (S .core h .state ≡ 2 → S .core h .flag ≡ 0) → Role S m h
   low h l u f = record {
     some = l;
     most = omega arith;
@@ -29,27 +29,27 @@ module _ (S : Hubs) (fl : (h : ℕ) → Flags (S .core h)) where
   }
 
   plain : {m : Msg} {h c p : ℕ} → Plain S h c p → 1 ≤ c → c ≤ 3 → Role S m h
-  plain {h = h} x l u = low h (omega (arith, x .st)) (omega (arith, x .st)) (λ e. x .flag)
+  plain {h = h} x l u = low h (omega (arith, x .state)) (omega (arith, x .state)) (λ e. x .flag)
 
   linked : {m : Msg} {h c : ℕ} → Linked S h c → 1 ≤ c → c ≤ 3 → Role S m h
-  linked {h = h} x l u = low h (omega (arith, x .st)) (omega (arith, x .st)) (λ e. x .flag)
+  linked {h = h} x l u = low h (omega (arith, x .state)) (omega (arith, x .state)) (λ e. x .flag)
 
-  joining : {m : Msg} {h : ℕ} → S .core h .st ≡ 1 → Role S m h
+  joining : {m : Msg} {h : ℕ} → S .core h .state ≡ 1 → Role S m h
   joining {h = h} x = low h (omega arith) (omega arith) (λ e. absurd (omega arith))
 
   leaving : {m : Msg} {q t p z : ℕ} → Plain S q 4 p → S .succ q ≡ t → Plain S t 2 z → Role S m q
-  leaving x e y = record { some = omega (arith, x .st); most = omega (arith, x .st); four = λ _. rw e (y .st); flag = λ f. absurd (omega (arith, x .flag)) }
+  leaving x e y = record { some = omega (arith, x .state); most = omega (arith, x .state); four = λ _. rw e (y .state); flag = λ f. absurd (omega (arith, x .flag)) }
 
-  served : {m : Msg} {a t p : ℕ} → Flagged S t a p → (S .core a .st ≡ 2) ⊎ ((p : ℕ) × (m ≡ joinPoint a t p)) → Role S m t
-  served x k = record { some = omega (arith, x .st); most = omega (arith, x .st); four = λ e. absurd (omega (arith, x .st)); flag = λ f. rw (x .pred) k }
+  served : {m : Msg} {a t p : ℕ} → Flagged S t a p → (S .core a .state ≡ 2) ⊎ ((p : ℕ) × (m ≡ joinPoint a t p)) → Role S m t
+  served x k = record { some = omega (arith, x .state); most = omega (arith, x .state); four = λ e. absurd (omega (arith, x .state)); flag = λ f. rw (x .pred) k }
 
   roles : (m : Msg) → Loc S m → All (Role S m) (owners m)
   roles (lookup x y v k hops) l = tt
   roles (join x y a) l = (joining (l .0), tt)
   roles (joinRetry x a) l = (joining (l .0), tt)
   roles (joinPoint a t p) l = (joining (l .0), (served (l .2) (inr (p, refl)), tt))
-  roles (newSucc a t p) l = (plain (l .0) (omega arith) (omega arith), (served (l .2) (inl (l .0 .st)), tt))
-  roles (newSuccAck a t p) l = (plain (l .0) (omega arith) (omega arith), (served (l .2) (inl (l .0 .st)), tt))
+  roles (newSucc a t p) l = (plain (l .0) (omega arith) (omega arith), (served (l .2) (inl (l .0 .state)), tt))
+  roles (newSuccAck a t p) l = (plain (l .0) (omega arith) (omega arith), (served (l .2) (inl (l .0 .state)), tt))
   roles (joinDone a t) l = (linked l (omega arith) (omega arith), tt)
   roles (leaveReq q y) l = (linked (l .0) (omega arith) (omega arith), tt)
   roles (leaveRetry x q) l = (linked (l .0) (omega arith) (omega arith), tt)
@@ -80,15 +80,15 @@ carried {S = S} {ms = ms} i h f = go (decLe 1 (S .core h .lock))
 
 module _ {n : ℕ} {id : ℕ → ℕ} {c : ℕ} {S : Hubs} {ms : List Msg} (i : Inv n id c S [] ms) where
   -- there is no state above 4
-  pub state-le : (h : ℕ) → S .core h .st ≤ 4
-  state-le h = go (decLe (S .core h .st) 4)
+  pub state-le : (h : ℕ) → S .core h .state ≤ 4
+  state-le h = go (decLe (S .core h .state) 4)
     where
-      go : Dec (S .core h .st ≤ 4) → S .core h .st ≤ 4
+      go : Dec (S .core h .state ≤ 4) → S .core h .state ≤ 4
       go (yes l) = l
-      go (no l) = carried i h (λ z. elim z [ inl e ↦ omega arith | inr e ↦ omega (arith, e .st) ]) .role .most
+      go (no l) = carried i h (λ z. elim z [ inl e ↦ omega arith | inr e ↦ omega (arith, e .state) ]) .role .most
 
   -- an outside hub is free
-  pub outside-free : (h : ℕ) → S .core h .st ≡ 0 → S .core h .lock ≡ 0
+  pub outside-free : (h : ℕ) → S .core h .state ≡ 0 → S .core h .lock ≡ 0
   outside-free h e = go (decLe 1 (S .core h .lock))
     where
       go : Dec (1 ≤ S .core h .lock) → S .core h .lock ≡ 0
@@ -96,7 +96,7 @@ module _ {n : ℕ} {id : ℕ → ℕ} {c : ℕ} {S : Hubs} {ms : List Msg} (i : 
       go (yes l) = absurd (omega (arith, held-by i h (omega (arith, i .count h)) .role .some))
 
   -- the newcomer before a flagged hub is on its way in, or in
-  pub newcomer : (h : ℕ) → S .core h .flag ≡ 1 → 1 ≤ S .core (S .core h .pred) .st
+  pub newcomer : (h : ℕ) → S .core h .flag ≡ 1 → 1 ≤ S .core (S .core h .pred) .state
   newcomer h f = go (k .role .flag f)
     where
       idle : Idle S h → ⊥
@@ -106,7 +106,7 @@ module _ {n : ℕ} {id : ℕ → ℕ} {c : ℕ} {S : Hubs} {ms : List Msg} (i : 
       k : Held S ms h
       k = carried i h idle
 
-      go : (S .core (S .core h .pred) .st ≡ 2) ⊎ ((p : ℕ) × (k .msg ≡ joinPoint (S .core h .pred) h p)) → 1 ≤ S .core (S .core h .pred) .st
+      go : (S .core (S .core h .pred) .state ≡ 2) ⊎ ((p : ℕ) × (k .msg ≡ joinPoint (S .core h .pred) h p)) → 1 ≤ S .core (S .core h .pred) .state
       go (inl e) = omega arith
       go (inr e) =
           let l = i .loc (joinPoint (S .core h .pred) h (e .0)) (subst (λ m. Mem m ms) (e .1) (k .waits)) in
@@ -114,15 +114,15 @@ module _ {n : ℕ} {id : ℕ → ℕ} {c : ℕ} {S : Hubs} {ms : List Msg} (i : 
 
 -- the message that closes a link has locked its receiver, which is in the ring
 pub record Shut (S : Hubs) (m : Msg) : Type 0 where
-  pub low : 2 ≤ S .core (to m) .st
-  pub high : S .core (to m) .st ≤ 4
+  pub low : 2 ≤ S .core (to m) .state
+  pub high : S .core (to m) .state ≤ 4
   pub owned : Mem (to m) (owners m)
 
 pub shut : {S : Hubs} (m : Msg) → Loc S m → T (closes m) → Shut S m
-shut (newSuccAck a t p) l k = record { low = omega (arith, l .2 .st); high = omega (arith, l .2 .st); owned = inr (inl refl) }
-shut (joinDone a t) l k = record { low = omega (arith, l .st); high = omega (arith, l .st); owned = inl refl }
-shut (stopForward q t p) l k = record { low = omega (arith, l .0 .st); high = omega (arith, l .0 .st); owned = inl refl }
-shut (leaveDone q t) l k = record { low = omega (arith, l .st); high = omega (arith, l .st); owned = inl refl }
+shut (newSuccAck a t p) l k = record { low = omega (arith, l .2 .state); high = omega (arith, l .2 .state); owned = inr (inl refl) }
+shut (joinDone a t) l k = record { low = omega (arith, l .state); high = omega (arith, l .state); owned = inl refl }
+shut (stopForward q t p) l k = record { low = omega (arith, l .0 .state); high = omega (arith, l .0 .state); owned = inl refl }
+shut (leaveDone q t) l k = record { low = omega (arith, l .state); high = omega (arith, l .state); owned = inl refl }
 shut (lookup x y v i hops) l k = absurd k
 shut (join x y a) l k = absurd k
 shut (joinRetry x a) l k = absurd k
@@ -136,7 +136,7 @@ shut (updateSucc q t p) l k = absurd k
 
 -- A question, or a request to leave, finds its receiver in the ring.
 module _ {n : ℕ} {id : ℕ → ℕ} {c : ℕ} {S : Hubs} (s : List Msg) (m : Msg) (t : List Msg) (j : Inv n id c S [] (s ++ (m ∷ t))) (cl : Clear m s) (a : T (asks m)) where
-  back-in : Back S (from m) (to m) t → S .core (to m) .st ≡ 2
+  back-in : Back S (from m) (to m) t → S .core (to m) .state ≡ 2
   back-in b = rw (b .pred) at (go (k .role .flag (b .flag)))
     where
       idle : Idle S (from m) → ⊥
@@ -154,17 +154,17 @@ module _ {n : ℕ} {id : ℕ → ℕ} {c : ℕ} {S : Hubs} (s : List Msg) (m : M
       none p e (inr (inl x)) = subst (λ u. T (asks u)) (sym x ∙ e) a
       none p e (inr (inr x)) = b .entered p (subst (λ u. Mem u t) (e ∙ ap (λ y. joinPoint y (from m) p) (b .pred)) x)
 
-      go : (S .core h .st ≡ 2) ⊎ ((p : ℕ) × (k .msg ≡ joinPoint h (from m) p)) → S .core h .st ≡ 2
+      go : (S .core h .state ≡ 2) ⊎ ((p : ℕ) × (k .msg ≡ joinPoint h (from m) p)) → S .core h .state ≡ 2
       go (inl e) = e
       go (inr e) = absurd (none (e .0) (e .1) (mem-split (k .msg) s (m ∷ t) (k .waits)))
 
   closed-in : (k : Closed (from m) (to m) t) → Shut S (k .last)
   closed-in k = shut (k .last) (j .loc (k .last) (mem-right (k .last) s (m ∷ t) (inr (k .waits)))) (k .is)
 
-  pub reach : (2 ≤ S .core (to m) .st) × (S .core (to m) .st ≤ 4)
+  pub reach : (2 ≤ S .core (to m) .state) × (S .core (to m) .state ≤ 4)
   reach = go (fifo-mid S s m t (j .fifo) a)
     where
-      go : Closed (from m) (to m) t ⊎ (Open S (from m) (to m) ⊎ Back S (from m) (to m) t) → (2 ≤ S .core (to m) .st) × (S .core (to m) .st ≤ 4)
+      go : Closed (from m) (to m) t ⊎ (Open S (from m) (to m) ⊎ Back S (from m) (to m) t) → (2 ≤ S .core (to m) .state) × (S .core (to m) .state ≤ 4)
       go (inl k) = let x = closed-in k in (rw (k .dst) at (x .low), rw (k .dst) at (x .high))
       go (inr (inl k)) = let f = j .fwd (from m) (k .low) (k .high) in (rw (k .at) at (f .low), rw (k .at) at (f .high))
       go (inr (inr k)) = let e = back-in k in omega arith

@@ -19,3 +19,9 @@ module _ {A : Type 0} (P : A → Type 0) where
   unfolding if_then_else_
   passes true x y t p = p
   passes false x y t p = absurd t
+
+  -- the same choice among other values
+  pub change : (b : Bool) (x y x′ y′ : A) → (P x → P x′) → (P y → P y′) → P (if b then x else y) → P (if b then x′ else y′)
+  unfolding if_then_else_
+  change true x y x′ y′ f g p = f p
+  change false x y x′ y′ f g p = g p

@@ -28,7 +28,7 @@ unfoldable pub takenIn : List ℕ → ℕ → List ℕ
 takenIn members h = h ∷ struckOff members h
 
 -- 'Every other answer, and every refusal, leaves it as it is.'
-unfoldable pub afterAnswer : List ℕ → Answer → List ℕ
+abbrev pub afterAnswer : List ℕ → Answer → List ℕ
 afterAnswer members Quiet = members
 afterAnswer members (Found hub number ticket hops) = members
 afterAnswer members (Entered hub) = takenIn members hub
@@ -60,20 +60,20 @@ unfoldable pub waiting : List Message → ℕ
 waiting [] = 0
 waiting (m ∷ messages) = (if eqb (m .kind) 1 then 1 else 0) + waiting messages
 
--- 'questions answered are the found answers', here by their tickets
+-- 'questions answered are the found answers', each here by its ticket
+abbrev pub foundTicket : Answer → List ℕ
+foundTicket Quiet = []
+foundTicket (Found hub number ticket hops) = ticket ∷ []
+foundTicket (Entered hub) = []
+foundTicket (Gone hub) = []
+foundTicket (JoinTurnedAway hub) = []
+foundTicket (LeaveTurnedAway hub) = []
+foundTicket (Joined hub) = []
+foundTicket (Left hub) = []
+
 unfoldable pub ticketOf : Outcome → List ℕ
 ticketOf (Refused k) = []
 ticketOf (Answered a) = foundTicket a
-  where
-    foundTicket : Answer → List ℕ
-    foundTicket Quiet = []
-    foundTicket (Found hub number ticket hops) = ticket ∷ []
-    foundTicket (Entered hub) = []
-    foundTicket (Gone hub) = []
-    foundTicket (JoinTurnedAway hub) = []
-    foundTicket (LeaveTurnedAway hub) = []
-    foundTicket (Joined hub) = []
-    foundTicket (Left hub) = []
 
 -- 'Questions accepted are the asks in the list that were not refused': 1 for such a call
 unfoldable pub acceptedAsk : ℕ → Outcome → ℕ

@@ -30,7 +30,8 @@ fn write_words(bytes: &mut [u8], words: &[u32]) {
     }
 }
 
-/// A step. 'Output too short is 17, asked first'; no tally is passed.
+/// A step. An output that is too short is 17, 'asked first'; no tally is
+/// passed.
 pub fn ring_step(words: &mut [u8], operation: u32, x: u32, y: u32, out: &mut [u8]) -> u32 {
     if out.len() < ANSWER_BYTES {
         return refusal::OUTPUT_SHORT;

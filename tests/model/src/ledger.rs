@@ -68,13 +68,19 @@ impl Membership {
 
 /// Every node that holds the key, lowest number first.
 pub fn holders(state: &State, key: u32) -> Vec<u32> {
-    (0..state.n()).filter(|&node| holds(state, node, key)).collect()
+    (0..state.n())
+        .filter(|&node| holds(state, node, key))
+        .collect()
 }
 
 /// Lookups in flight (document 01: questions waiting).
 pub fn waiting(state: &State) -> u64 {
     let is_lookup = |kind: u32| kind == LOOKUP;
-    state.messages.iter().filter(|message| is_lookup(message.kind)).count() as u64
+    state
+        .messages
+        .iter()
+        .filter(|message| is_lookup(message.kind))
+        .count() as u64
 }
 
 /// Lookups accepted and answered over a list of calls.

@@ -22,6 +22,7 @@ pub mod ringrun;
 pub mod routing;
 pub mod step;
 pub mod tally;
+pub mod well_formed;
 pub mod witness;
 
 pub use answer::Answer;

@@ -2,9 +2,7 @@
 //! 'Reading the ring').
 
 use crate::clockwise::in_interval;
-use crate::record::{
-    row_start, well_formed, State, INSIDE, NONE, ROW_WORDS, WANTING_TO_LEAVE,
-};
+use crate::record::{row_start, well_formed, State, INSIDE, NONE, ROW_WORDS, WANTING_TO_LEAVE};
 use crate::refusal;
 
 /// 'A hub holds v when its state is 2 or 3 and v is in (pred, its

@@ -1,8 +1,9 @@
-//! The ring record: its layout in 32-bit words, its typed form, and what it
-//! is to be well formed (document 01, 'Ring record').
+//! The ring record: its layout in 32-bit words and its typed form (document
+//! 01, 'Ring record').
 
-use crate::kinds::{JOIN, JOINPOINT, LEAVEDONE, LEAVEPOINT, LOOKUP, NEWSUCCACK};
 use crate::refusal;
+
+pub use crate::well_formed::{all_different, well_formed};
 
 /// Words of a record; 'later ones are never read or written'.
 pub const RECORD_WORDS: usize = 1988;
@@ -158,8 +159,12 @@ impl State {
         let m = words[2] as usize;
         Ok(State {
             asked: words[3],
-            rows: (0..n).map(|i| Row::from_words(row_words(words, i))).collect(),
-            messages: (0..m).map(|j| Message::from_words(message_words(words, j))).collect(),
+            rows: (0..n)
+                .map(|i| Row::from_words(row_words(words, i)))
+                .collect(),
+            messages: (0..m)
+                .map(|j| Message::from_words(message_words(words, j)))
+                .collect(),
         })
     }
 
@@ -198,83 +203,12 @@ impl State {
     }
 }
 
-fn row_words(words: &[u32], i: usize) -> &[u32] {
+/// The seven words of a row of a record.
+pub(crate) fn row_words(words: &[u32], i: usize) -> &[u32] {
     &words[row_start(i)..row_start(i) + ROW_WORDS]
 }
 
-fn message_words(words: &[u32], j: usize) -> &[u32] {
+/// The six words of a message of a record.
+pub(crate) fn message_words(words: &[u32], j: usize) -> &[u32] {
     &words[message_start(j)..message_start(j) + MESSAGE_WORDS]
-}
-
-/// Is the record well formed? A slice of fewer than 1,988 words holds none.
-pub fn well_formed(words: &[u32]) -> bool {
-    if words.len() < RECORD_WORDS {
-        return false;
-    }
-    let (form, n, m) = (words[0], words[1], words[2]);
-    if form != FORM || !(1..=MAX_NODES as u32).contains(&n) || m > MAX_MESSAGES as u32 {
-        return false;
-    }
-    identifiers_differ(words, n as usize)
-        && rows_well_formed(words, n as usize)
-        && messages_well_formed(words, m as usize)
-}
-
-/// 'Identifiers of the n hubs differ.'
-fn identifiers_differ(words: &[u32], n: usize) -> bool {
-    for i in 0..n {
-        for earlier in 0..i {
-            if words[row_start(i)] == words[row_start(earlier)] {
-                return false;
-            }
-        }
-    }
-    true
-}
-
-/// The n rows hold what their states need, and 'unused rows are all 0'.
-fn rows_well_formed(words: &[u32], n: usize) -> bool {
-    (0..n).all(|i| row_well_formed(row_words(words, i), n as u32))
-        && words[row_start(n)..FIRST_MESSAGE].iter().all(|&word| word == 0)
-}
-
-/// The clauses on states, locks, flags and pointers, for one row.
-fn row_well_formed(row: &[u32], n: u32) -> bool {
-    let (state, lock, flag) = (row[1], row[2], row[3]);
-    let (pred, succ, oldpred) = (row[4], row[5], row[6]);
-    let pointers_fit = match state {
-        OUTSIDE | JOINING => pred == NONE && succ == NONE,
-        INSIDE | WANTING_TO_LEAVE | LEAVING => pred < n && succ < n,
-        _ => false,
-    };
-    let lock_fits = match state {
-        OUTSIDE => lock == 0,
-        INSIDE => lock == 0 || lock == 1,
-        _ => lock == 1,
-    };
-    let flag_fits = match flag {
-        0 => oldpred == NONE,
-        1 => state == INSIDE && lock == 1 && oldpred < n,
-        _ => false,
-    };
-    pointers_fit && lock_fits && flag_fits
-}
-
-/// The m messages hold what their kinds need, and 'unused messages are all 0'.
-fn messages_well_formed(words: &[u32], m: usize) -> bool {
-    (0..m).all(|j| message_well_formed(message_words(words, j), words[1], words[3]))
-        && words[message_start(m)..RECORD_WORDS].iter().all(|&word| word == 0)
-}
-
-/// The clauses on kinds and fields, for one message.
-fn message_well_formed(message: &[u32], n: u32, asked: u32) -> bool {
-    let (kind, from, to) = (message[0], message[1], message[2]);
-    let (a, b, hops) = (message[3], message[4], message[5]);
-    let fields_fit = match kind {
-        LOOKUP => b < asked && hops <= MAX_HOPS,
-        JOIN | JOINPOINT | NEWSUCCACK | LEAVEPOINT => a < n && b == 0 && hops == 0,
-        LOOKUP..=LEAVEDONE => a == 0 && b == 0 && hops == 0,
-        _ => false,
-    };
-    fields_fit && from < n && to < n
 }

@@ -8,8 +8,8 @@ use crate::answer::Answer;
 use crate::command;
 use crate::kinds;
 use crate::record::{
-    Message, Row, State, INSIDE, JOINING, MAX_MESSAGES, MAX_NODES, NONE, OUTSIDE, RECORD_WORDS,
-    WANTING_TO_LEAVE,
+    all_different, Message, Row, State, INSIDE, JOINING, MAX_MESSAGES, MAX_NODES, NONE, OUTSIDE,
+    RECORD_WORDS, WANTING_TO_LEAVE,
 };
 use crate::refusal;
 use crate::routing::{route, Route};
@@ -36,10 +36,6 @@ pub fn fresh(words: &mut [u32], identifiers: &[u32]) -> Result<(), u32> {
     };
     state.write(words);
     Ok(())
-}
-
-fn all_different(identifiers: &[u32]) -> bool {
-    (0..identifiers.len()).all(|i| !identifiers[..i].contains(&identifiers[i]))
 }
 
 fn outside_row(identifier: u32) -> Row {

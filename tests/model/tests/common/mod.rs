@@ -5,7 +5,9 @@ use ring_model::command::{ASK, DELIVER, JOIN, LEAVE};
 use ring_model::record::{Message, Row, State, INSIDE, NONE, OUTSIDE};
 use ring_model::{fresh, roll_call, step, well_formed, Answer, Command, Witness, RECORD_WORDS};
 
+pub mod driver;
 pub mod orders;
+pub mod records;
 
 /// A ring from fresh on, with every call watched.
 #[derive(Clone)]
@@ -19,18 +21,26 @@ impl Run {
         let mut words = vec![0; RECORD_WORDS];
         fresh(&mut words, identifiers).expect("fresh is accepted");
         let mut witness = Witness::new(identifiers);
-        witness.judge(&words).expect("the empty list keeps demand 3");
+        witness
+            .judge(&words)
+            .expect("the empty list keeps demand 3");
         Run { words, witness }
     }
 
-    /// A ring with all of its nodes inside and at rest.
-    pub fn settled(identifiers: &[u32]) -> Run {
+    /// A ring at rest with node 0 and these others inside.
+    pub fn with_members(identifiers: &[u32], others: &[u32]) -> Run {
         let mut run = Run::found(identifiers);
-        for node in 1..identifiers.len() as u32 {
+        for &node in others {
             run.join(node, 0).expect("join is accepted");
             run.drain();
         }
         run
+    }
+
+    /// A ring at rest with all of its nodes inside.
+    pub fn settled(identifiers: &[u32]) -> Run {
+        let others: Vec<u32> = (1..identifiers.len() as u32).collect();
+        Run::with_members(identifiers, &others)
     }
 
     /// One call. A refusal must change nothing, an accepted step must leave
@@ -75,13 +85,21 @@ impl Run {
 
     /// The kinds in flight, oldest first.
     pub fn kinds(&self) -> Vec<u32> {
-        self.state().messages.iter().map(|message| message.kind).collect()
+        self.state()
+            .messages
+            .iter()
+            .map(|message| message.kind)
+            .collect()
     }
 
     /// The links that have a message in flight, each once.
     pub fn links(&self) -> Vec<(u32, u32)> {
-        let mut links: Vec<(u32, u32)> =
-            self.state().messages.iter().map(|message| (message.from, message.to)).collect();
+        let mut links: Vec<(u32, u32)> = self
+            .state()
+            .messages
+            .iter()
+            .map(|message| (message.from, message.to))
+            .collect();
         links.sort_unstable();
         links.dedup();
         links
@@ -91,7 +109,10 @@ impl Run {
     pub fn drain(&mut self) -> Vec<Answer> {
         let mut answers = Vec::new();
         while let Some(oldest) = self.state().messages.first() {
-            answers.push(self.deliver(oldest.from, oldest.to).expect("deliver is accepted"));
+            answers.push(
+                self.deliver(oldest.from, oldest.to)
+                    .expect("deliver is accepted"),
+            );
         }
         answers
     }

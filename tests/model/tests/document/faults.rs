@@ -9,15 +9,7 @@ use crate::common::{inside, message, record, Run};
 
 /// Nodes 0 (100) and 1 (300) inside, node 2 (200) entered at node 1.
 fn entered() -> Run {
-    let mut run = Run::settled(&[100, 300]);
-    let identifiers = [100, 300, 200];
-    run = {
-        let mut wider = Run::found(&identifiers);
-        wider.join(1, 0).expect("join is accepted");
-        wider.drain();
-        assert_eq!(wider.row(1), run.row(1));
-        wider
-    };
+    let mut run = Run::with_members(&[100, 300, 200], &[1]);
     run.join(2, 1).expect("join is accepted");
     assert_eq!(run.deliver(2, 1), Ok(Answer::naming(ENTERED, 2)));
     run
@@ -71,15 +63,7 @@ fn oldest_message_of_a_link_comes_first() {
 /// NEWSUCCACK, and until then a second join there is turned away.
 #[test]
 fn owner_stays_locked_until_the_old_link_is_dry() {
-    let mut run = Run::settled(&[100, 300, 400]);
-    run.leave(2).expect("leave is accepted");
-    run.drain();
-    run = {
-        let mut wider = Run::found(&[100, 300, 200, 250]);
-        wider.join(1, 0).expect("join is accepted");
-        wider.drain();
-        wider
-    };
+    let mut run = Run::with_members(&[100, 300, 200, 250], &[1]);
     run.join(2, 1).expect("join is accepted");
     run.deliver(2, 1).expect("JOIN is delivered");
     assert!(run.row(1).lock);
@@ -122,8 +106,14 @@ fn leaving_node_does_not_answer() {
     run.ask(0, 150).expect("ask is accepted");
     assert_eq!(run.deliver(0, 1), Ok(Answer::quiet()));
     let answers = run.drain();
-    let found: Vec<&Answer> = answers.iter().filter(|answer| answer.kind == FOUND).collect();
-    assert_eq!(found, [&Answer::found(0, 150, 0, 1), &Answer::found(0, 150, 1, 2)]);
+    let found: Vec<&Answer> = answers
+        .iter()
+        .filter(|answer| answer.kind == FOUND)
+        .collect();
+    assert_eq!(
+        found,
+        [&Answer::found(0, 150, 0, 1), &Answer::found(0, 150, 1, 2)]
+    );
 }
 
 /// The old link is looked at before the range: a key that the flagged node

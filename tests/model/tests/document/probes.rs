@@ -97,7 +97,10 @@ fn full_record_delivers() {
 fn full_record_answers_its_own_key() {
     let mut words = full_record();
     assert_eq!(refused(&words, 0, 0, 150), 11);
-    assert_eq!(step(&mut words, 0, 1, 150), Ok(Answer::found(1, 150, 255, 0)));
+    assert_eq!(
+        step(&mut words, 0, 1, 150),
+        Ok(Answer::found(1, 150, 255, 0))
+    );
     assert_eq!((words[2], words[3]), (256, 256));
 }
 

@@ -1,0 +1,497 @@
+-- An accepted step leaves a well-formed state well formed, and a fresh ring is so. For EVERY well-formed state and command.
+-- Assumes nothing.
+use mathlib.Core.Path.{_≡_, refl, sym, _∙_, ap, subst}
+use mathlib.Core.Logic.{_⊎_, inl, inr, _≢_}
+use mathlib.Core.Bool.{Bool, true, false, not, _&&_, _||_}
+use mathlib.Core.List.{List, [], _∷_, _++_, map}
+use Prim.Native.Nat.{ℕ, zero, suc, _+_, _≤_, _<_}
+use native.Mathlib.Decide.{ℕ-discrete, decLt}
+use native.Mathlib.Numerals.{add-one}
+use native.Mathlib.Omega.{arith}
+use lib.Dec.{T, leb, ltb, eqb, leb→le, ltb→lt, eqb→eq, nltb→le, T-not}
+use lib.ListN.{length, getD, set, take, drop, length-set, length-append, length-take, length-drop, length-map}
+use lib.Seq.{map-set-same}
+use Rattle.lists.specs.Choice.{if_then_else_, choose, change}
+use Rattle.lists.specs.Members.{Mem, mem-at, mem-split, All}
+use Rattle.lists.specs.Search.{Missed, search-ends}
+use Rattle.lists.specs.Search.{Found as Located}
+use Rattle.lists.specs.Tests.{and-left, and-right, →eqb, true-T, Distinct}
+use Rattle.protocol.specs.declared.Row.{Row}
+use Rattle.protocol.specs.declared.Message.{Message}
+use Rattle.protocol.specs.declared.Answer.{Answer}
+use Rattle.protocol.specs.declared.Answer.the-variants.{Quiet, Found}
+use Rattle.protocol.specs.declared.Route.{Route}
+use Rattle.protocol.specs.declared.Route.the-variants.{Own, To}
+use Rattle.protocol.specs.declared.Decision.{Decision}
+use Rattle.protocol.specs.declared.Decision.the-variants.{Refuse, Reply, Send}
+use Rattle.protocol.specs.Record.{round, mostNodes, mostMessages, none, State, count, row, identifier, message, noMessage, outside, withRow, sent, taken}
+use Rattle.protocol.specs.WellFormed.{limitA, limitB, limitHops, identifiers}
+use Rattle.protocol.specs.Fresh.{alone, foundedBy, fresh}
+use Rattle.protocol.specs.Routing.{inRing, inside, onward, route}
+use Rattle.protocol.specs.Kinds as kinds
+use Rattle.protocol.specs.Kinds.{question, note, grown, lookedUp, joined, admitted, handle}
+use Rattle.protocol.specs.Step as step
+use Rattle.protocol.specs.Step.{Result, refused, accepted, require, conclude, room, asking, ticketed, onLink, oldest, delivered}
+use Rattle.layout.specs.Form.{RowForm, MessageForm, Form, row-at}
+use Rattle.atomicity.specs.Good.{tested}
+use Rattle.atomicity.specs.Commands.{ring-states}
+
+inside-states : (h : Row) → T (inside h) → (2 ≤ h .state) × (h .state ≤ 3)
+unfolding inside
+inside-states h t =
+    (leb→le 2 (h .state) (and-left (leb 2 (h .state)) (ltb (h .state) 4) t), omega (arith, ltb→lt (h .state) 4 (and-right (leb 2 (h .state)) (ltb (h .state) 4) t)))
+
+-- where a number goes is a hub
+abbrev Leads : ℕ → Route → Type 0
+Leads n Own = Unit {0}
+Leads n (To z) = z < n
+
+onward-leads : (n p : ℕ) (h : Row) (v : ℕ) → h .succ < n → Leads n (onward p h v)
+unfolding onward
+onward-leads n p h v l = choose (Leads n) _ _ _ (λ _. l) (λ _. choose (Leads n) _ _ _ (λ _. tt) (λ _. l))
+
+route-leads : (n p : ℕ) (h : Row) (f v : ℕ) → h .pred < n → h .succ < n → Leads n (route p h f v)
+unfolding route
+route-leads n p h f v k l = choose (Leads n) _ _ _ (λ _. k) (λ _. onward-leads n p h v l)
+
+-- A decision at a hub with row h, in a ring of n hubs with q questions asked: its row and its message are as they must be.
+abbrev Sound : ℕ → ℕ → Row → Decision → Type 0
+Sound n q h (Refuse k) = Unit {0}
+Sound n q h (Reply v a) = RowForm n v × (v .identifier ≡ h .identifier)
+Sound n q h (Send v m a) = RowForm n v × (v .identifier ≡ h .identifier) × MessageForm n q m
+
+-- a message that is no LOOKUP
+note-form : {n q : ℕ} (k x y a : ℕ) → 2 ≤ k → k < 15 → x < n → y < n → a < limitA n k → limitB q k ≡ 1 → limitHops k ≡ 1 → MessageForm n q (note k x y a)
+note-form k x y a l u hx hy la lb lh =
+    record { low = omega arith; high = u; from = hx; to = hy; a = la; b = omega (arith, lb); hops = omega (arith, lh) }
+
+-- the kinds that name a hub
+limit-names : (n : ℕ) → All (λ k. limitA n k ≡ n) (2 ∷ 4 ∷ 6 ∷ 11 ∷ [])
+unfolding limitA if_then_else_
+limit-names n = (refl, (refl, (refl, (refl, tt))))
+
+module _ (n q : ℕ) (h : Row) (r : RowForm n h) (m : Message) (ok : MessageForm n q m) where
+  abbrev Well : Decision → Type 0
+  Well d = Sound n q h d
+
+  if-else : (b : Bool) (d : Decision) → (T b → Well d) → Well (if b then d else Refuse 10)
+  if-else b d f = choose Well b d (Refuse 10) f (λ _. tt)
+
+  -- the flag is down in every state but 2
+  down : h .state ≢ 2 → (h .flag ≡ 0) × (h .oldpred ≡ none)
+  down ne = elim (r .flag) [ inl k ↦ k | inr k ↦ absurd (ne (k .1)) ]
+
+  -- succ alone is changed, at a hub in the ring
+  turn : (s : ℕ) → s < n → 2 ≤ h .state → RowForm n (kinds.withSucc h s)
+  turn s l k = record {
+    state = r .state;
+    lock = r .lock;
+    unlinked = λ u. absurd (omega arith);
+    linked = λ _. (r .linked k .0, l);
+    out = r .out;
+    taken = r .taken;
+    flag = r .flag;
+  }
+
+  -- the lock is freed in state 2
+  loose : h .state ≡ 2 → h .flag ≡ 0 → RowForm n (kinds.withLock h 0)
+  loose e f = record {
+    state = r .state;
+    lock = omega arith;
+    unlinked = r .unlinked;
+    linked = r .linked;
+    out = λ _. refl;
+    taken = λ _ ne. absurd (ne e);
+    flag = elim (r .flag) [ inl k ↦ inl k | inr k ↦ absurd (omega arith) ];
+  }
+
+  -- a in a message that names a hub
+  names : limitA n (m .kind) ≡ n → m .a < n
+  names e = omega (arith, ok .a)
+
+  hops-form : m .kind ≡ 1 → grown m < 65536
+  unfolding limitHops if_then_else_ grown
+  hops-form e = go (rw e at (ok .hops))
+    where
+      go : m .hops < 65536 → grown m < 65536
+      go l = choose (λ z. z < 65536) (ltb (m .hops) 65535) (m .hops + 1) (m .hops) (λ t. omega (arith, ltb→lt (m .hops) 65535 t)) (λ _. l)
+
+  looked-up-sound : m .kind ≡ 1 → (z : Route) → Leads n z → Well (lookedUp h m z)
+  unfolding lookedUp limitA limitB limitHops if_then_else_
+  looked-up-sound e Own l = (r, refl)
+  looked-up-sound e (To z) l =
+      (r, refl, record { low = omega arith; high = omega arith; from = ok .to; to = l; a = rw e at (ok .a); b = rw e at (ok .b); hops = hops-form e })
+
+  lookup-sound : (p : ℕ) → m .kind ≡ 1 → Well (kinds.lookup p h m)
+  unfolding kinds.lookup
+  lookup-sound p e =
+      if-else (inRing h) _
+      (λ t. let b = r .linked (ring-states h t .0) in looked-up-sound e (route p h (m .from) (m .a)) (route-leads n p h (m .from) (m .a) (b .0) (b .1)))
+
+  retried-sound : m .a < n → Well (kinds.joinRetried h m)
+  unfolding limitA limitB limitHops if_then_else_
+  retried-sound la = (r, refl, note-form 3 (m .to) (m .a) 0 (omega arith) (omega arith) (ok .to) la (omega arith) refl refl)
+
+  joined-sound : m .a < n → 2 ≤ h .state → (z : Route) → Leads n z → Well (joined h m z)
+  unfolding joined limitA limitB limitHops if_then_else_
+  joined-sound la k Own l =
+      choose Well (eqb (h .lock) 1) _ _ (λ _. retried-sound la)
+      (λ t. (enters t, refl, note-form 4 (m .to) (m .a) (h .pred) (omega arith) (omega arith) (ok .to) la (r .linked k .0) refl refl))
+    where
+      two : T (not (eqb (h .lock) 1)) → Dec (h .state ≡ 2) → h .state ≡ 2
+      two t (yes e) = e
+      two t (no e) = absurd (T-not (eqb (h .lock) 1) t (→eqb _ 1 (r .taken (λ x. omega arith) e)))
+
+      enters : T (not (eqb (h .lock) 1)) → RowForm n (admitted h (m .a))
+      enters t = record {
+        state = r .state;
+        lock = omega arith;
+        unlinked = λ u. absurd (omega arith);
+        linked = λ _. (la, r .linked k .1);
+        out = λ e. absurd (omega arith);
+        taken = λ _ _. refl;
+        flag = inr (refl, two t (ℕ-discrete (h .state) 2), refl, r .linked k .0);
+      }
+  joined-sound la k (To z) l = (r, refl, note-form 2 (m .to) z (m .a) (omega arith) (omega arith) (ok .to) l la refl refl)
+
+  join-sound : (p : ℕ) (g : Row) → m .a < n → Well (kinds.join p h g m)
+  unfolding kinds.join
+  join-sound p g la =
+      if-else (eqb (g .state) 1) _ (λ _. choose Well (ltb (h .state) 2) _ _ (λ _. retried-sound la)
+      (λ t. let k : 2 ≤ h .state = nltb→le (h .state) 2 t in let b = r .linked k in
+      joined-sound la k (route p h (m .from) (g .identifier)) (route-leads n p h (m .from) (g .identifier) (b .0) (b .1))))
+
+  join-retry-sound : Well (kinds.joinRetry h m)
+  unfolding kinds.joinRetry
+  join-retry-sound = if-else (eqb (h .state) 1) _ λ t.
+      let e : h .state ≡ 1 = eqb→eq _ 1 t in
+      (record {
+        state = omega arith;
+        lock = omega arith;
+        unlinked = λ _. r .unlinked (omega arith);
+        linked = λ l. absurd (omega arith);
+        out = λ _. refl;
+        taken = λ ne. absurd (ne refl);
+        flag = inl (down (λ x. omega arith));
+      }, refl)
+
+  join-point-sound : m .a < n → Well (kinds.joinPoint h m)
+  unfolding kinds.joinPoint limitA limitB limitHops if_then_else_
+  join-point-sound la = if-else (eqb (h .state) 1) _ λ t.
+      let e : h .state ≡ 1 = eqb→eq _ 1 t in
+      (record {
+        state = omega arith;
+        lock = r .lock;
+        unlinked = λ l. absurd (omega arith);
+        linked = λ _. (la, ok .from);
+        out = λ x. absurd (omega arith);
+        taken = λ _ ne. absurd (ne refl);
+        flag = inl (down (λ x. omega arith));
+      }, refl, note-form 5 (m .to) (m .a) 0 (omega arith) (omega arith) (ok .to) la (omega arith) refl refl)
+
+  new-succ-sound : Well (kinds.newSucc h m)
+  unfolding kinds.newSucc limitA limitB limitHops if_then_else_
+  new-succ-sound = if-else (inside h) _ λ t.
+      let w = inside-states h t in
+      (turn (m .from) (ok .from) (w .0), refl, note-form 6 (m .to) (h .succ) (m .from) (omega arith) (omega arith) (ok .to) (r .linked (w .0) .1) (ok .from) refl refl)
+
+  new-succ-ack-sound : m .a < n → Well (kinds.newSuccAck h m)
+  unfolding kinds.newSuccAck limitA limitB limitHops if_then_else_
+  new-succ-ack-sound la = if-else (eqb (h .flag) 1) _ λ t.
+      let e : h .flag ≡ 1 = eqb→eq _ 1 t in
+      (record {
+        state = r .state;
+        lock = omega arith;
+        unlinked = r .unlinked;
+        linked = r .linked;
+        out = λ _. refl;
+        taken = λ _ ne. absurd (elim (r .flag) [ inl x ↦ omega arith | inr x ↦ ne (x .1) ]);
+        flag = inl (refl, refl);
+      }, refl, note-form 7 (m .to) (m .a) 0 (omega arith) (omega arith) (ok .to) la (omega arith) refl refl)
+
+  -- state 2, lock 1, flag 0: the lock is freed
+  freed : (a : Answer) → Well (if eqb (h .state) 2 && eqb (h .lock) 1 && eqb (h .flag) 0 then Reply (kinds.withLock h 0) a else Refuse 10)
+  freed a = if-else (eqb (h .state) 2 && eqb (h .lock) 1 && eqb (h .flag) 0) _ λ t.
+      let st : h .state ≡ 2 = eqb→eq _ 2 (and-left (eqb (h .state) 2) (eqb (h .lock) 1) (and-left (eqb (h .state) 2 && eqb (h .lock) 1) (eqb (h .flag) 0) t)) in
+      let fl : h .flag ≡ 0 = eqb→eq _ 0 (and-right (eqb (h .state) 2 && eqb (h .lock) 1) (eqb (h .flag) 0) t) in
+      (loose st fl, refl)
+
+  leave-req-sound : Well (kinds.leaveReq h m)
+  unfolding kinds.leaveReq limitA limitB limitHops if_then_else_
+  leave-req-sound = if-else (inRing h) _ λ t.
+      let w = ring-states h t in
+      choose Well (eqb (h .lock) 1) _ _
+      (λ _. (r, refl, note-form 9 (m .to) (m .from) 0 (omega arith) (omega arith) (ok .to) (ok .from) (omega arith) refl refl))
+      (λ _. (record {
+        state = r .state;
+        lock = omega arith;
+        unlinked = r .unlinked;
+        linked = r .linked;
+        out = λ e. absurd (omega arith);
+        taken = λ _ _. refl;
+        flag = elim (r .flag) [ inl k ↦ inl k | inr k ↦ inr (k .0, k .1, refl, k .3) ];
+      }, refl, note-form 10 (m .to) (m .from) 0 (omega arith) (omega arith) (ok .to) (ok .from) (omega arith) refl refl))
+
+  leave-retry-sound : Well (kinds.leaveRetry h m)
+  unfolding kinds.leaveRetry
+  leave-retry-sound = if-else (eqb (h .state) 3) _ λ t.
+      let e : h .state ≡ 3 = eqb→eq _ 3 t in
+      (record {
+        state = omega arith;
+        lock = omega arith;
+        unlinked = λ l. absurd (omega arith);
+        linked = λ _. r .linked (omega arith);
+        out = λ _. refl;
+        taken = λ _ ne. absurd (ne refl);
+        flag = inl (down (λ x. omega arith));
+      }, refl)
+
+  leave-grant-sound : Well (kinds.leaveGrant h m)
+  unfolding kinds.leaveGrant limitA limitB limitHops if_then_else_
+  leave-grant-sound = if-else (eqb (h .state) 3) _ λ t.
+      let e : h .state ≡ 3 = eqb→eq _ 3 t in
+      let b = r .linked (omega arith) in
+      (record {
+        state = omega arith;
+        lock = r .lock;
+        unlinked = λ l. absurd (omega arith);
+        linked = λ _. b;
+        out = λ x. absurd (omega arith);
+        taken = λ _ _. r .taken (λ x. omega arith) (λ x. omega arith);
+        flag = inl (down (λ x. omega arith));
+      }, refl, note-form 11 (m .to) (m .from) (h .pred) (omega arith) (omega arith) (ok .to) (ok .from) (b .0) refl refl)
+
+  leave-point-sound : m .a < n → Well (kinds.leavePoint h m)
+  unfolding kinds.leavePoint limitA limitB limitHops if_then_else_
+  leave-point-sound la = if-else (eqb (h .state) 2 && eqb (h .lock) 1) _ λ t.
+      let e : h .state ≡ 2 = eqb→eq _ 2 (and-left (eqb (h .state) 2) (eqb (h .lock) 1) t) in
+      (record {
+        state = r .state;
+        lock = r .lock;
+        unlinked = λ l. absurd (omega arith);
+        linked = λ _. (la, r .linked (omega arith) .1);
+        out = r .out;
+        taken = r .taken;
+        flag = r .flag;
+      }, refl, note-form 12 (m .to) (m .a) 0 (omega arith) (omega arith) (ok .to) la (omega arith) refl refl)
+
+  update-succ-sound : Well (kinds.updateSucc h m)
+  unfolding kinds.updateSucc limitA limitB limitHops if_then_else_
+  update-succ-sound = if-else (inside h) _ λ t.
+      let w = inside-states h t in
+      (turn (m .from) (ok .from) (w .0), refl, note-form 13 (m .to) (h .succ) 0 (omega arith) (omega arith) (ok .to) (r .linked (w .0) .1) (omega arith) refl refl)
+
+  stop-forward-sound : Well (kinds.stopForward h m)
+  unfolding kinds.stopForward limitA limitB limitHops if_then_else_
+  stop-forward-sound = if-else (eqb (h .state) 4) _ λ t.
+      let e : h .state ≡ 4 = eqb→eq _ 4 t in
+      (record {
+        state = omega arith;
+        lock = omega arith;
+        unlinked = λ _. (refl, refl);
+        linked = λ l. absurd (omega arith);
+        out = λ _. refl;
+        taken = λ ne. absurd (ne refl);
+        flag = inl (down (λ x. omega arith));
+      }, refl, note-form 14 (m .to) (h .succ) 0 (omega arith) (omega arith) (ok .to) (r .linked (omega arith) .1) (omega arith) refl refl)
+
+  -- a message of a kind that names a hub
+  names-hub : (k : ℕ) → limitA n k ≡ n → m .kind ≡ k → m .a < n
+  names-hub k l e = omega (arith, ok .a, ap (limitA n) e)
+
+  -- the match over the kinds
+  pub handle-sound : (p : ℕ) (g : Row) → Well (handle p h g m)
+  unfolding handle kinds.joinDone kinds.leaveDone
+  handle-sound p g =
+      by 1 _ _ (λ e. lookup-sound p e) (by 2 _ _ (λ e. join-sound p g (names-hub 2 (limit-names n .0) e)) (by 3 _ _ (λ e. join-retry-sound)
+      (by 4 _ _ (λ e. join-point-sound (names-hub 4 (limit-names n .1 .0) e)) (by 5 _ _ (λ e. new-succ-sound)
+      (by 6 _ _ (λ e. new-succ-ack-sound (names-hub 6 (limit-names n .1 .1 .0) e)) (by 7 _ _ (λ e. freed _) (by 8 _ _ (λ e. leave-req-sound)
+      (by 9 _ _ (λ e. leave-retry-sound) (by 10 _ _ (λ e. leave-grant-sound) (by 11 _ _ (λ e. leave-point-sound (names-hub 11 (limit-names n .1 .1 .1 .0) e))
+      (by 12 _ _ (λ e. update-succ-sound) (by 13 _ _ (λ e. stop-forward-sound) (by 14 _ _ (λ e. freed _) tt)))))))))))))
+    where
+      by : (k : ℕ) (x y : Decision) → (m .kind ≡ k → Well x) → Well y → Well (if eqb (m .kind) k then x else y)
+      by k x y f g = choose Well (eqb (m .kind) k) x y (λ t. f (eqb→eq (m .kind) k t)) (λ _. g)
+
+-- a step's result
+pub Leaves : Result → Type 0
+Leaves (refused k) = Unit {0}
+Leaves (accepted a s) = Form s
+
+pub leaves-refused : (k : ℕ) → Leaves (refused k)
+unfolding Leaves
+leaves-refused k = tt
+
+pub leaves-form : (a : Answer) (s : State) → Leaves (accepted a s) → Form s
+unfolding Leaves
+leaves-form a s f = f
+
+leaves-accepted : (a : Answer) (s : State) → Form s → Leaves (accepted a s)
+unfolding Leaves
+leaves-accepted a s f = f
+
+mem-set : {A : Type 0} (l : List A) (i : ℕ) (v x : A) → Mem x (set l i v) → (x ≡ v) ⊎ Mem x l
+mem-set [] i v x k = absurd k
+mem-set (y ∷ l) zero v x (inl e) = inl e
+mem-set (y ∷ l) zero v x (inr k) = inr (inr k)
+mem-set (y ∷ l) (suc i) v x (inl e) = inr (inl e)
+mem-set (y ∷ l) (suc i) v x (inr k) = elim (mem-set l i v x k) [ inl e ↦ inl e | inr j ↦ inr (inr j) ]
+
+-- the row of hub t is made v
+with-row-form : (s : State) (t : ℕ) (v : Row) → Form s → RowForm (count s) v → v .identifier ≡ row s t .identifier → Form (withRow s t v)
+with-row-form s t v f r e =
+    let n : length (set (s .rows) t v) ≡ count s = length-set (s .rows) t v in
+    record {
+      some = rw n (f .some);
+      few = rw n (f .few);
+      short = f .short;
+      differ = subst Distinct (sym (map-set-same (λ h. h .identifier) (s .rows) t v (outside 0) e)) (f .differ);
+      rows = λ h k. rw n (elim (mem-set (s .rows) t v h k) [ inl q ↦ subst (RowForm (count s)) (sym q) r | inr j ↦ f .rows h j ]);
+      messages = λ m k. rw n (f .messages m k);
+    }
+
+-- a message is put last
+sent-form : (s : State) (m : Message) → Form s → length (s .messages) < mostMessages → MessageForm (count s) (s .asked) m → Form (sent s m)
+sent-form s m f l o = record {
+  some = f .some;
+  few = f .few;
+  short = omega (arith, length-append (s .messages) (m ∷ []));
+  differ = f .differ;
+  rows = f .rows;
+  messages = λ x k. go x (mem-split x (s .messages) (m ∷ []) k);
+}
+  where
+    go : (x : Message) → Mem x (s .messages) ⊎ Mem x (m ∷ []) → MessageForm (count s) (s .asked) x
+    go x (inl k) = f .messages x k
+    go x (inr (inl e)) = subst (MessageForm (count s) (s .asked)) (sym e) o
+    go x (inr (inr k)) = absurd k
+
+conclude-form : (s : State) (t : ℕ) (d : Decision) → Form s → length (s .messages) < mostMessages → Sound (count s) (s .asked) (row s t) d → Leaves (conclude s t d)
+unfolding conclude
+conclude-form s t (Refuse k) f l w = leaves-refused k
+conclude-form s t (Reply v a) f l w = leaves-accepted a _ (with-row-form s t v f (w .0) (w .1))
+conclude-form s t (Send v m a) f l w =
+    leaves-accepted a _ (sent-form (withRow s t v) m (with-row-form s t v f (w .0) (w .1)) l (rw (length-set (s .rows) t v) (w .2)))
+
+mem-part : {A : Type 0} (l : List A) (j : ℕ) (x : A) → Mem x (take j l ++ drop (suc j) l) → Mem x l
+mem-part [] zero x k = absurd k
+mem-part [] (suc j) x k = absurd k
+mem-part (y ∷ l) zero x k = inr k
+mem-part (y ∷ l) (suc j) x (inl e) = inl e
+mem-part (y ∷ l) (suc j) x (inr k) = inr (mem-part l j x k)
+
+-- the oldest message of a link goes to its receiver
+link-to : (s : State) (x y : ℕ) → oldest s x y < length (s .messages) → message s (oldest s x y) .to ≡ y
+unfolding onLink
+link-to s x y l = go (search-ends (onLink s x y) (length (s .messages)))
+  where
+    go : Located (onLink s x y) (length (s .messages)) ⊎ Missed (onLink s x y) (length (s .messages)) → message s (oldest s x y) .to ≡ y
+    go (inl k) = eqb→eq _ y (and-right (eqb (message s (oldest s x y) .from) x) _ (true-T _ (k .here)))
+    go (inr k) = absurd (omega (arith, k .end))
+
+-- message j is taken out
+module _ (s : State) (f : Form s) (j : ℕ) (l : j < length (s .messages)) where
+  taken-short : length (taken s j .messages) < mostMessages
+  taken-short =
+      omega (arith, length-append (take j (s .messages)) (drop (j + 1) (s .messages)), length-take j (s .messages), length-drop (j + 1) (s .messages), f .short)
+
+  taken-form : Form (taken s j)
+  taken-form = record {
+    some = f .some;
+    few = f .few;
+    short = omega (arith, taken-short);
+    differ = f .differ;
+    rows = f .rows;
+    messages = λ m k. f .messages m (mem-part (s .messages) j m (rw add-one at k));
+  }
+
+  delivered-form : (t : ℕ) → message s j .to ≡ t → Leaves (delivered s t j)
+  unfolding delivered
+  delivered-form t e =
+      let ok = f .messages (message s j) (mem-at (s .messages) j noMessage l) in
+      conclude-form (taken s j) t _ taken-form taken-short
+      (handle-sound (count s) (s .asked) (row s t) (row-at f t (rw e at (ok .to))) (message s j) ok (identifier s (row s t .pred)) (row s (message s j .a)))
+
+module _ (s : State) (f : Form s) where
+  ask-yes : (b : Bool) (k : ℕ) (r : Result) → (T b → Leaves r) → Leaves (require b k r)
+  ask-yes b k r g = tested Leaves b k r g (leaves-refused k)
+
+  roomy : T (room s) → length (s .messages) < mostMessages
+  unfolding room
+  roomy t = ltb→lt (length (s .messages)) mostMessages t
+
+  join-form : (x y : ℕ) → Leaves (step.join s x y)
+  unfolding step.join limitA limitB limitHops if_then_else_
+  join-form x y = ask-yes _ _ _ λ t4. ask-yes _ _ _ λ t6. ask-yes _ _ _ λ t5. ask-yes _ _ _ λ t11.
+      let lx : x < count s = ltb→lt x (count s) (and-left (ltb x (count s)) (ltb y (count s)) t4) in
+      let ly : y < count s = ltb→lt y (count s) (and-right (ltb x (count s)) (ltb y (count s)) t4) in
+      let e : row s x .state ≡ 0 = eqb→eq _ 0 t6 in
+      let r = row-at f x lx in
+      conclude-form s x _ f (roomy t11) (record {
+        state = omega arith;
+        lock = omega arith;
+        unlinked = λ _. r .unlinked (omega arith);
+        linked = λ l. absurd (omega arith);
+        out = λ z. absurd (omega arith);
+        taken = λ _ _. refl;
+        flag = elim (r .flag) [ inl k ↦ inl k | inr k ↦ absurd (omega arith) ];
+      }, refl, note-form 2 x y x (omega arith) (omega arith) lx ly lx refl refl)
+
+  leave-form : (x : ℕ) → Leaves (step.leave s x)
+  unfolding step.leave limitA limitB limitHops if_then_else_
+  leave-form x = ask-yes _ _ _ λ t4. ask-yes _ _ _ λ t5. ask-yes _ _ _ λ t7. ask-yes _ _ _ λ t8. ask-yes _ _ _ λ t11.
+      let lx : x < count s = ltb→lt x (count s) t4 in
+      let w = ring-states (row s x) t5 in
+      let z : row s x .lock ≡ 0 = eqb→eq _ 0 t7 in
+      let r = row-at f x lx in
+      let b = r .linked (w .0) in
+      conclude-form s x _ f (roomy t11) (record {
+        state = omega arith;
+        lock = omega arith;
+        unlinked = λ l. absurd (omega arith);
+        linked = λ _. b;
+        out = λ e. absurd (omega arith);
+        taken = λ _ _. refl;
+        flag = elim (r .flag) [ inl k ↦ inl k | inr k ↦ absurd (omega (arith, k .2)) ];
+      }, refl, note-form 8 x (row s x .succ) 0 (omega arith) (omega arith) lx (b .1) (omega arith) refl refl)
+
+  -- one question more asked
+  more-asked : (m : Message) → MessageForm (count s) (s .asked) m → MessageForm (count s) (s .asked + 1) m
+  unfolding limitB
+  more-asked m o = record {
+    low = o .low;
+    high = o .high;
+    from = o .from;
+    to = o .to;
+    a = o .a;
+    b = change (λ z. m .b < z) (eqb (m .kind) 1) (s .asked) 1 (s .asked + 1) 1 (λ l. omega arith) (λ l. l) (o .b);
+    hops = o .hops;
+  }
+
+  ticketed-form : Form (ticketed s)
+  ticketed-form = record { some = f .some; few = f .few; short = f .short; differ = f .differ; rows = f .rows; messages = λ m k. more-asked m (f .messages m k) }
+
+  asking-form : (x v : ℕ) → v < round → x < count s → (z : Route) → Leads (count s) z → Leaves (asking s x v z)
+  unfolding asking limitA limitB limitHops if_then_else_
+  asking-form x v lv lx Own l = leaves-accepted _ _ ticketed-form
+  asking-form x v lv lx (To z) l = ask-yes _ _ _ λ t11.
+      leaves-accepted _ _ (sent-form (ticketed s) _ ticketed-form (roomy t11)
+      (record { low = omega arith; high = omega arith; from = lx; to = l; a = lv; b = omega arith; hops = omega arith }))
+
+  ask-form : (x v : ℕ) → v < round → Leaves (step.ask s x v)
+  unfolding step.ask
+  ask-form x v lv = ask-yes _ _ _ λ t4. ask-yes _ _ _ λ t5. ask-yes _ _ _ λ t12.
+      let lx : x < count s = ltb→lt x (count s) t4 in
+      asking-form x v lv lx (onward (identifier s (row s x .pred)) (row s x) v)
+      (onward-leads (count s) _ (row s x) v (row-at f x lx .linked (ring-states (row s x) t5 .0) .1))
+
+  deliver-form : (x y : ℕ) → Leaves (step.deliver s x y)
+  unfolding step.deliver
+  deliver-form x y = ask-yes _ _ _ λ t4. ask-yes _ _ _ λ t9.
+      delivered-form s f (oldest s x y) (ltb→lt _ _ t9) y (link-to s x y (ltb→lt _ _ t9))
+
+  -- An accepted step leaves the state well formed.
+  pub step-form : (operation x y : ℕ) → y < round → Leaves (step.step s operation x y)
+  unfolding step.step
+  step-form operation x y ly =
+      choose Leaves _ _ _ (λ _. ask-form x y ly) (λ _. choose Leaves _ _ _ (λ _. join-form x y) (λ _. choose Leaves _ _ _ (λ _. leave-form x)
+      (λ _. choose Leaves _ _ _ (λ _. deliver-form x y) (λ _. leaves-refused 3))))

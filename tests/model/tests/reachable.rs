@@ -1,0 +1,77 @@
+//! Everything that small rings can reach: all lists of joins, leaves and
+//! deliveries, of any length, with a few lookups among them.
+
+mod common;
+
+use std::collections::HashSet;
+
+use common::Run;
+use ring_model::ledger::Membership;
+use ring_model::record::State;
+
+/// Every command worth a try: joins, leaves and deliveries of all nodes, and
+/// asks for every identifier as long as fewer than `lookups` were asked.
+fn commands(state: &State, lookups: u32) -> Vec<(u32, u32, u32)> {
+    let mut all = Vec::new();
+    for x in 0..state.n() {
+        for y in 0..state.n() {
+            all.push((1, x, y));
+            all.push((3, x, y));
+            if state.asked < lookups {
+                all.push((0, x, state.row(y).identifier));
+            }
+        }
+        all.push((2, x, 0));
+    }
+    all
+}
+
+/// Visits every reachable pair of record and membership, each call watched,
+/// and returns how many there are. Lookups accepted and answered, and the
+/// tickets answered, follow from the record, so the pair is all that counts.
+fn explore(identifiers: &[u32], lookups: u32) -> usize {
+    let mut met: HashSet<(State, Membership)> = HashSet::new();
+    let start = Run::found(identifiers);
+    met.insert((start.state(), start.witness.membership().clone()));
+    let mut open = vec![start];
+    while let Some(run) = open.pop() {
+        let state = run.state();
+        if state.messages.is_empty() {
+            run.assert_at_rest();
+        }
+        for (operation, x, y) in commands(&state, lookups) {
+            let mut next = run.clone();
+            let accepted = next.call(operation, x, y).is_ok();
+            if accepted && met.insert((next.state(), next.witness.membership().clone())) {
+                open.push(next);
+            }
+        }
+    }
+    met.len()
+}
+
+// The counts are pinned so that a change of any rule shows.
+
+#[test]
+fn one_node() {
+    assert_eq!(explore(&[100], 2), 3);
+}
+
+#[test]
+fn two_nodes() {
+    assert_eq!(explore(&[100, 200], 2), 1397);
+    assert_eq!(explore(&[200, 100], 2), 1397);
+}
+
+#[test]
+fn three_nodes() {
+    assert_eq!(explore(&[100, 200, 300], 0), 1792);
+    assert_eq!(explore(&[u32::MAX, 0, 100], 1), 32_369);
+}
+
+/// Takes half a minute.
+#[test]
+#[ignore = "long"]
+fn four_nodes() {
+    assert_eq!(explore(&[100, 200, 300, 400], 0), 129_527);
+}
