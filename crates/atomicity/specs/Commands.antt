@@ -221,7 +221,7 @@ module _ (id : ℕ → ℕ) (small : (h : ℕ) → id h < round) (c : ℕ) (s : 
       (λ ne own.
       let led1 : mark members x ≡ 1 = H .inv .member x .inside (r .0) (omega (arith, r .1)) in
       fine-accepted id c members ks (s .asked + 1) true (Found x v (s .asked) 0) _ (record {
-        named = owner-of round id small v lv led1 (H .inv .next x (r .0) led1) (range x v own);
+        named = (lv, owner-of round id small v lv led1 (H .inv .next x (r .0) led1) (range x v own));
         asked = refl;
         good = record {
           ms = G .ms;

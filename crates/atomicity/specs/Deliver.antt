@@ -242,7 +242,7 @@ module _ (id : ℕ → ℕ) (small : (h : ℕ) → id h < round) (c : ℕ) (inj 
       (λ f. pass (rowOf rows y .pred) (inr (inr (record { flag = f; pred = refl; entered = λ p m. m }))) (newcomer (H .inv) y f))
       (pass (rowOf rows y .succ) (inr (inl (record { low = w .0; high = w .1; at = refl }))) (omega (arith, H .inv .fwd y (w .0) (w .1) .low)))
       (λ ne own. reply m H (rowOf rows y) refl (Found y v k (grown (erase m)))
-      (owner-of round id small v (N .point refl) (led1 ne) (H .inv .next y (w .0) (led1 ne)) (range m H y v own))
+      (N .point refl, owner-of round id small v (N .point refl) (led1 ne) (H .inv .next y (w .0) (led1 ne)) (range m H y v own))
       (unchanged y (calm-sent (take-out s m t cl (H .inv)) (record { same = λ z. refl; fresh = tt; nojoin = λ a b p m. m; fifo = tt })))
       (λ i. omega arith) (omega arith)))
     where

@@ -121,10 +121,10 @@ pub record Good (id : ℕ → ℕ) (c : ℕ) (s : State) (members ks : List ℕ)
   pub same : s .messages ≡ map erase ms
   pub holds : Holds id c (s .rows) (s .asked) members ks ms
 
--- a found answer names the owner
+-- a found answer is about a number of the circle and names its owner
 abbrev pub Names : (ℕ → ℕ) → List ℕ → Answer → Type 0
 Names id members Quiet = Unit {0}
-Names id members (Found hub number ticket hops) = Owner round id (mark members) number hub
+Names id members (Found hub number ticket hops) = (number < round) × Owner round id (mark members) number hub
 Names id members (Entered hub) = Unit {0}
 Names id members (Gone hub) = Unit {0}
 Names id members (JoinTurnedAway hub) = Unit {0}

@@ -12,3 +12,6 @@ pub mod Good
 pub mod Deliver
 pub mod Commands
 pub mod Preserved
+pub mod Demand3
+pub mod Run
+pub mod Theorem

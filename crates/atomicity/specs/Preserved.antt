@@ -9,7 +9,7 @@ use native.Mathlib.Decide.{ℕ-discrete, decLt}
 use native.Mathlib.Numerals.{add-one}
 use native.Mathlib.Omega.{arith}
 use lib.Dec.{T, leb, ltb, eqb, leb→le, ltb→lt, eqb→eq, nltb→le, T-not}
-use lib.ListN.{length, getD, set, take, drop, length-set, length-append, length-take, length-drop, length-map}
+use lib.ListN.{length, getD, set, take, drop, length-set, length-append, length-take, length-drop, length-map, List·getD-map}
 use lib.Seq.{map-set-same}
 use Rattle.lists.specs.Choice.{if_then_else_, choose, change}
 use Rattle.lists.specs.Members.{Mem, mem-at, mem-split, All}
@@ -26,7 +26,7 @@ use Rattle.protocol.specs.declared.Decision.{Decision}
 use Rattle.protocol.specs.declared.Decision.the-variants.{Refuse, Reply, Send}
 use Rattle.protocol.specs.Record.{round, mostNodes, mostMessages, none, State, count, row, identifier, message, noMessage, outside, withRow, sent, taken}
 use Rattle.protocol.specs.WellFormed.{limitA, limitB, limitHops, identifiers}
-use Rattle.protocol.specs.Fresh.{alone, foundedBy, fresh}
+use Rattle.protocol.specs.Fresh.{founder, alone, foundedBy, fresh}
 use Rattle.protocol.specs.Routing.{inRing, inside, onward, route}
 use Rattle.protocol.specs.Kinds as kinds
 use Rattle.protocol.specs.Kinds.{question, note, grown, lookedUp, joined, admitted, handle}
@@ -36,7 +36,7 @@ use Rattle.layout.specs.Form.{RowForm, MessageForm, Form, row-at}
 use Rattle.atomicity.specs.Good.{tested}
 use Rattle.atomicity.specs.Commands.{ring-states}
 
-inside-states : (h : Row) → T (inside h) → (2 ≤ h .state) × (h .state ≤ 3)
+pub inside-states : (h : Row) → T (inside h) → (2 ≤ h .state) × (h .state ≤ 3)
 unfolding inside
 inside-states h t =
     (leb→le 2 (h .state) (and-left (leb 2 (h .state)) (ltb (h .state) 4) t), omega (arith, ltb→lt (h .state) 4 (and-right (leb 2 (h .state)) (ltb (h .state) 4) t)))
@@ -495,3 +495,58 @@ module _ (s : State) (f : Form s) where
   step-form operation x y ly =
       choose Leaves _ _ _ (λ _. ask-form x y ly) (λ _. choose Leaves _ _ _ (λ _. join-form x y) (λ _. choose Leaves _ _ _ (λ _. leave-form x)
       (λ _. choose Leaves _ _ _ (λ _. deliver-form x y) (λ _. leaves-refused 3))))
+
+-- A fresh ring is well formed.
+module _ (ids : List ℕ) where
+  identifiers-outside : (l : List ℕ) → map (λ h. h .identifier) (map outside l) ≡ l
+  identifiers-outside [] = refl
+  identifiers-outside (i ∷ l) = ap (λ z. i ∷ z) (identifiers-outside l)
+
+  outside-row : (n : ℕ) (l : List ℕ) (h : Row) → Mem h (map outside l) → RowForm n h
+  outside-row n (i ∷ l) h (inl e) = subst (RowForm n) (sym e) (record {
+    state = omega arith;
+    lock = omega arith;
+    unlinked = λ _. (refl, refl);
+    linked = λ l. absurd (omega arith);
+    out = λ _. refl;
+    taken = λ ne. absurd (ne refl);
+    flag = inl (refl, refl);
+  })
+  outside-row n (i ∷ l) h (inr k) = outside-row n l h k
+  outside-row n [] h k = absurd k
+
+  alone-row : (n f i : ℕ) → f < n → RowForm n (alone f i)
+  alone-row n f i l = record {
+    state = omega arith;
+    lock = omega arith;
+    unlinked = λ u. absurd (omega arith);
+    linked = λ _. (l, l);
+    out = λ e. absurd (omega arith);
+    taken = λ _ ne. absurd (ne refl);
+    flag = inl (refl, refl);
+  }
+
+  -- the founder's row keeps its identifier
+  pub founder-name : (f : ℕ) → getD ids f 0 ≡ getD (map outside ids) f (outside 0) .identifier
+  founder-name f = sym (ap (λ h. h .identifier) (List·getD-map outside ids f 0))
+
+  pub identifiers-founded : (f : ℕ) → map (λ h. h .identifier) (foundedBy f ids) ≡ ids
+  identifiers-founded f = map-set-same (λ h. h .identifier) (map outside ids) f (alone f (getD ids f 0)) (outside 0) (founder-name f) ∙ identifiers-outside ids
+
+  pub length-founded : (f : ℕ) → length (foundedBy f ids) ≡ length ids
+  length-founded f = length-set (map outside ids) f (alone f (getD ids f 0)) ∙ length-map ids outside
+
+  pub fresh-form : 1 ≤ length ids → length ids ≤ mostNodes → Distinct ids → Form (fresh ids)
+  unfolding fresh
+  fresh-form some few differ =
+      let f = founder ids in
+      let n = length-founded f in
+      record {
+        some = rw n some;
+        few = rw n few;
+        short = omega arith;
+        differ = subst Distinct (sym (identifiers-founded f)) differ;
+        rows = λ h k. rw n (elim (mem-set (map outside ids) f (alone f (getD ids f 0)) h k)
+            [ inl e ↦ subst (RowForm (length ids)) (sym e) (alone-row (length ids) f (getD ids f 0) (omega arith)) | inr j ↦ outside-row (length ids) ids h j ]);
+        messages = λ m k. absurd k;
+      }

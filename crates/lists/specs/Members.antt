@@ -121,3 +121,15 @@ module _ {A : Type 0} where
   pub all-of : (P : A → Type 0) (l : List A) → ((x : A) → Mem x l → P x) → All P l
   all-of P [] f = tt
   all-of P (x ∷ l) f = (f x (inl refl), all-of P l (λ y k. f y (inr k)))
+
+  -- at a place that is there the default does not matter
+  pub getD-any : (l : List A) (i : ℕ) (d e : A) → i < length l → getD l i d ≡ getD l i e
+  getD-any (x ∷ l) zero d e h = refl
+  getD-any (x ∷ l) (suc i) d e h = getD-any l i d e (omega arith)
+  getD-any [] i d e h = absurd (omega arith)
+
+  -- a member has a place
+  pub place : (x : A) (l : List A) (d : A) → Mem x l → (i : ℕ) × (i < length l) × (getD l i d ≡ x)
+  place x (y ∷ l) d (inl e) = (0, omega arith, sym e)
+  place x (y ∷ l) d (inr k) = let r = place x l d k in (suc (r .0), omega (arith, r .1), r .2)
+  place x [] d k = absurd k

@@ -97,7 +97,7 @@ unfoldable pub distinct : List ℕ → Bool
 distinct [] = true
 distinct (x ∷ l) = every (λ y. not (eqb x y)) l && distinct l
 
-pub Distinct : List ℕ → Type 0
+unfoldable pub Distinct : List ℕ → Type 0
 Distinct [] = Unit {0}
 Distinct (x ∷ l) = ((y : ℕ) → Mem y l → ¬ (x ≡ y)) × Distinct l
 

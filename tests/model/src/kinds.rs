@@ -1,5 +1,6 @@
 //! The fourteen message kinds: what each needs of its receiver and what the
-//! receiver does (document 01, 'Each kind below names what t must be').
+//! receiver does (document 01, 'Each kind below names what t, the receiver,
+//! must be').
 //!
 //! Throughout, t is the receiver and f the sender, as in the paper.
 
