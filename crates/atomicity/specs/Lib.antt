@@ -15,3 +15,6 @@ pub mod Preserved
 pub mod Demand3
 pub mod Run
 pub mod Theorem
+pub mod Record
+pub mod Instance
+pub mod Probes

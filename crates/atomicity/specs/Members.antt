@@ -117,7 +117,7 @@ pub owner-computed : (ids : List ℕ) (c : ℕ) → ((h : ℕ) → getD ids h 0 
 owner-computed ids c small inj members below v h lv o =
     let l = least-of ids v members h (marked members h (o .member)) in
     let e : l .who ≡ h =
-      inj (l .who) h (below (l .who) (mem-marked members (l .who) (l .member))) (below h (o .member))
-      (dist-inj round v (getD ids (l .who) 0) (getD ids h 0) lv (small (l .who)) (small h)
-      (omega (arith, l .least h (marked members h (o .member)), o .least (l .who) (mem-marked members (l .who) (l .member))))) in
+    inj (l .who) h (below (l .who) (mem-marked members (l .who) (l .member))) (below h (o .member))
+    (dist-inj round v (getD ids (l .who) 0) (getD ids h 0) lv (small (l .who)) (small h)
+    (omega (arith, l .least h (marked members h (o .member)), o .least (l .who) (mem-marked members (l .who) (l .member))))) in
     l .is ∙ ap node e

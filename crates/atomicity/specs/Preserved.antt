@@ -164,30 +164,35 @@ module _ (n q : ℕ) (h : Row) (r : RowForm n h) (m : Message) (ok : MessageForm
   join-retry-sound : Well (kinds.joinRetry h m)
   unfolding kinds.joinRetry
   join-retry-sound = if-else (eqb (h .state) 1) _ λ t.
-      let e : h .state ≡ 1 = eqb→eq _ 1 t in
-      (record {
-        state = omega arith;
-        lock = omega arith;
-        unlinked = λ _. r .unlinked (omega arith);
-        linked = λ l. absurd (omega arith);
-        out = λ _. refl;
-        taken = λ ne. absurd (ne refl);
-        flag = inl (down (λ x. omega arith));
-      }, refl)
+      let e : h .state ≡ 1 = eqb→eq _ 1 t in (
+        record {
+          state = omega arith;
+          lock = omega arith;
+          unlinked = λ _. r .unlinked (omega arith);
+          linked = λ l. absurd (omega arith);
+          out = λ _. refl;
+          taken = λ ne. absurd (ne refl);
+          flag = inl (down (λ x. omega arith));
+        },
+        refl,
+      )
 
   join-point-sound : m .a < n → Well (kinds.joinPoint h m)
   unfolding kinds.joinPoint limitA limitB limitHops if_then_else_
   join-point-sound la = if-else (eqb (h .state) 1) _ λ t.
-      let e : h .state ≡ 1 = eqb→eq _ 1 t in
-      (record {
-        state = omega arith;
-        lock = r .lock;
-        unlinked = λ l. absurd (omega arith);
-        linked = λ _. (la, ok .from);
-        out = λ x. absurd (omega arith);
-        taken = λ _ ne. absurd (ne refl);
-        flag = inl (down (λ x. omega arith));
-      }, refl, note-form 5 (m .to) (m .a) 0 (omega arith) (omega arith) (ok .to) la (omega arith) refl refl)
+      let e : h .state ≡ 1 = eqb→eq _ 1 t in (
+        record {
+          state = omega arith;
+          lock = r .lock;
+          unlinked = λ l. absurd (omega arith);
+          linked = λ _. (la, ok .from);
+          out = λ x. absurd (omega arith);
+          taken = λ _ ne. absurd (ne refl);
+          flag = inl (down (λ x. omega arith));
+        },
+        refl,
+        note-form 5 (m .to) (m .a) 0 (omega arith) (omega arith) (ok .to) la (omega arith) refl refl,
+      )
 
   new-succ-sound : Well (kinds.newSucc h m)
   unfolding kinds.newSucc limitA limitB limitHops if_then_else_
@@ -198,16 +203,19 @@ module _ (n q : ℕ) (h : Row) (r : RowForm n h) (m : Message) (ok : MessageForm
   new-succ-ack-sound : m .a < n → Well (kinds.newSuccAck h m)
   unfolding kinds.newSuccAck limitA limitB limitHops if_then_else_
   new-succ-ack-sound la = if-else (eqb (h .flag) 1) _ λ t.
-      let e : h .flag ≡ 1 = eqb→eq _ 1 t in
-      (record {
-        state = r .state;
-        lock = omega arith;
-        unlinked = r .unlinked;
-        linked = r .linked;
-        out = λ _. refl;
-        taken = λ _ ne. absurd (elim (r .flag) [ inl x ↦ omega arith | inr x ↦ ne (x .1) ]);
-        flag = inl (refl, refl);
-      }, refl, note-form 7 (m .to) (m .a) 0 (omega arith) (omega arith) (ok .to) la (omega arith) refl refl)
+      let e : h .flag ≡ 1 = eqb→eq _ 1 t in (
+        record {
+          state = r .state;
+          lock = omega arith;
+          unlinked = r .unlinked;
+          linked = r .linked;
+          out = λ _. refl;
+          taken = λ _ ne. absurd (elim (r .flag) [ inl x ↦ omega arith | inr x ↦ ne (x .1) ]);
+          flag = inl (refl, refl);
+        },
+        refl,
+        note-form 7 (m .to) (m .a) 0 (omega arith) (omega arith) (ok .to) la (omega arith) refl refl,
+      )
 
   -- state 2, lock 1, flag 0: the lock is freed
   freed : (a : Answer) → Well (if eqb (h .state) 2 && eqb (h .lock) 1 && eqb (h .flag) 0 then Reply (kinds.withLock h 0) a else Refuse 10)
@@ -222,58 +230,70 @@ module _ (n q : ℕ) (h : Row) (r : RowForm n h) (m : Message) (ok : MessageForm
       let w = ring-states h t in
       choose Well (eqb (h .lock) 1) _ _
       (λ _. (r, refl, note-form 9 (m .to) (m .from) 0 (omega arith) (omega arith) (ok .to) (ok .from) (omega arith) refl refl))
-      (λ _. (record {
-        state = r .state;
-        lock = omega arith;
-        unlinked = r .unlinked;
-        linked = r .linked;
-        out = λ e. absurd (omega arith);
-        taken = λ _ _. refl;
-        flag = elim (r .flag) [ inl k ↦ inl k | inr k ↦ inr (k .0, k .1, refl, k .3) ];
-      }, refl, note-form 10 (m .to) (m .from) 0 (omega arith) (omega arith) (ok .to) (ok .from) (omega arith) refl refl))
+      (λ _. (
+        record {
+          state = r .state;
+          lock = omega arith;
+          unlinked = r .unlinked;
+          linked = r .linked;
+          out = λ e. absurd (omega arith);
+          taken = λ _ _. refl;
+          flag = elim (r .flag) [ inl k ↦ inl k | inr k ↦ inr (k .0, k .1, refl, k .3) ];
+        },
+        refl,
+        note-form 10 (m .to) (m .from) 0 (omega arith) (omega arith) (ok .to) (ok .from) (omega arith) refl refl,
+      ))
 
   leave-retry-sound : Well (kinds.leaveRetry h m)
   unfolding kinds.leaveRetry
   leave-retry-sound = if-else (eqb (h .state) 3) _ λ t.
-      let e : h .state ≡ 3 = eqb→eq _ 3 t in
-      (record {
-        state = omega arith;
-        lock = omega arith;
-        unlinked = λ l. absurd (omega arith);
-        linked = λ _. r .linked (omega arith);
-        out = λ _. refl;
-        taken = λ _ ne. absurd (ne refl);
-        flag = inl (down (λ x. omega arith));
-      }, refl)
+      let e : h .state ≡ 3 = eqb→eq _ 3 t in (
+        record {
+          state = omega arith;
+          lock = omega arith;
+          unlinked = λ l. absurd (omega arith);
+          linked = λ _. r .linked (omega arith);
+          out = λ _. refl;
+          taken = λ _ ne. absurd (ne refl);
+          flag = inl (down (λ x. omega arith));
+        },
+        refl,
+      )
 
   leave-grant-sound : Well (kinds.leaveGrant h m)
   unfolding kinds.leaveGrant limitA limitB limitHops if_then_else_
   leave-grant-sound = if-else (eqb (h .state) 3) _ λ t.
       let e : h .state ≡ 3 = eqb→eq _ 3 t in
-      let b = r .linked (omega arith) in
-      (record {
-        state = omega arith;
-        lock = r .lock;
-        unlinked = λ l. absurd (omega arith);
-        linked = λ _. b;
-        out = λ x. absurd (omega arith);
-        taken = λ _ _. r .taken (λ x. omega arith) (λ x. omega arith);
-        flag = inl (down (λ x. omega arith));
-      }, refl, note-form 11 (m .to) (m .from) (h .pred) (omega arith) (omega arith) (ok .to) (ok .from) (b .0) refl refl)
+      let b = r .linked (omega arith) in (
+        record {
+          state = omega arith;
+          lock = r .lock;
+          unlinked = λ l. absurd (omega arith);
+          linked = λ _. b;
+          out = λ x. absurd (omega arith);
+          taken = λ _ _. r .taken (λ x. omega arith) (λ x. omega arith);
+          flag = inl (down (λ x. omega arith));
+        },
+        refl,
+        note-form 11 (m .to) (m .from) (h .pred) (omega arith) (omega arith) (ok .to) (ok .from) (b .0) refl refl,
+      )
 
   leave-point-sound : m .a < n → Well (kinds.leavePoint h m)
   unfolding kinds.leavePoint limitA limitB limitHops if_then_else_
   leave-point-sound la = if-else (eqb (h .state) 2 && eqb (h .lock) 1) _ λ t.
-      let e : h .state ≡ 2 = eqb→eq _ 2 (and-left (eqb (h .state) 2) (eqb (h .lock) 1) t) in
-      (record {
-        state = r .state;
-        lock = r .lock;
-        unlinked = λ l. absurd (omega arith);
-        linked = λ _. (la, r .linked (omega arith) .1);
-        out = r .out;
-        taken = r .taken;
-        flag = r .flag;
-      }, refl, note-form 12 (m .to) (m .a) 0 (omega arith) (omega arith) (ok .to) la (omega arith) refl refl)
+      let e : h .state ≡ 2 = eqb→eq _ 2 (and-left (eqb (h .state) 2) (eqb (h .lock) 1) t) in (
+        record {
+          state = r .state;
+          lock = r .lock;
+          unlinked = λ l. absurd (omega arith);
+          linked = λ _. (la, r .linked (omega arith) .1);
+          out = r .out;
+          taken = r .taken;
+          flag = r .flag;
+        },
+        refl,
+        note-form 12 (m .to) (m .a) 0 (omega arith) (omega arith) (ok .to) la (omega arith) refl refl,
+      )
 
   update-succ-sound : Well (kinds.updateSucc h m)
   unfolding kinds.updateSucc limitA limitB limitHops if_then_else_
@@ -284,16 +304,19 @@ module _ (n q : ℕ) (h : Row) (r : RowForm n h) (m : Message) (ok : MessageForm
   stop-forward-sound : Well (kinds.stopForward h m)
   unfolding kinds.stopForward limitA limitB limitHops if_then_else_
   stop-forward-sound = if-else (eqb (h .state) 4) _ λ t.
-      let e : h .state ≡ 4 = eqb→eq _ 4 t in
-      (record {
-        state = omega arith;
-        lock = omega arith;
-        unlinked = λ _. (refl, refl);
-        linked = λ l. absurd (omega arith);
-        out = λ _. refl;
-        taken = λ ne. absurd (ne refl);
-        flag = inl (down (λ x. omega arith));
-      }, refl, note-form 14 (m .to) (h .succ) 0 (omega arith) (omega arith) (ok .to) (r .linked (omega arith) .1) (omega arith) refl refl)
+      let e : h .state ≡ 4 = eqb→eq _ 4 t in (
+        record {
+          state = omega arith;
+          lock = omega arith;
+          unlinked = λ _. (refl, refl);
+          linked = λ l. absurd (omega arith);
+          out = λ _. refl;
+          taken = λ ne. absurd (ne refl);
+          flag = inl (down (λ x. omega arith));
+        },
+        refl,
+        note-form 14 (m .to) (h .succ) 0 (omega arith) (omega arith) (ok .to) (r .linked (omega arith) .1) (omega arith) refl refl,
+      )
 
   -- a message of a kind that names a hub
   names-hub : (k : ℕ) → limitA n k ≡ n → m .kind ≡ k → m .a < n
@@ -325,7 +348,7 @@ pub leaves-form : (a : Answer) (s : State) → Leaves (accepted a s) → Form s
 unfolding Leaves
 leaves-form a s f = f
 
-leaves-accepted : (a : Answer) (s : State) → Form s → Leaves (accepted a s)
+pub leaves-accepted : (a : Answer) (s : State) → Form s → Leaves (accepted a s)
 unfolding Leaves
 leaves-accepted a s f = f
 
@@ -426,15 +449,19 @@ module _ (s : State) (f : Form s) where
       let ly : y < count s = ltb→lt y (count s) (and-right (ltb x (count s)) (ltb y (count s)) t4) in
       let e : row s x .state ≡ 0 = eqb→eq _ 0 t6 in
       let r = row-at f x lx in
-      conclude-form s x _ f (roomy t11) (record {
-        state = omega arith;
-        lock = omega arith;
-        unlinked = λ _. r .unlinked (omega arith);
-        linked = λ l. absurd (omega arith);
-        out = λ z. absurd (omega arith);
-        taken = λ _ _. refl;
-        flag = elim (r .flag) [ inl k ↦ inl k | inr k ↦ absurd (omega arith) ];
-      }, refl, note-form 2 x y x (omega arith) (omega arith) lx ly lx refl refl)
+      conclude-form s x _ f (roomy t11) (
+        record {
+          state = omega arith;
+          lock = omega arith;
+          unlinked = λ _. r .unlinked (omega arith);
+          linked = λ l. absurd (omega arith);
+          out = λ z. absurd (omega arith);
+          taken = λ _ _. refl;
+          flag = elim (r .flag) [ inl k ↦ inl k | inr k ↦ absurd (omega arith) ];
+        },
+        refl,
+        note-form 2 x y x (omega arith) (omega arith) lx ly lx refl refl,
+      )
 
   leave-form : (x : ℕ) → Leaves (step.leave s x)
   unfolding step.leave limitA limitB limitHops if_then_else_
@@ -444,15 +471,19 @@ module _ (s : State) (f : Form s) where
       let z : row s x .lock ≡ 0 = eqb→eq _ 0 t7 in
       let r = row-at f x lx in
       let b = r .linked (w .0) in
-      conclude-form s x _ f (roomy t11) (record {
-        state = omega arith;
-        lock = omega arith;
-        unlinked = λ l. absurd (omega arith);
-        linked = λ _. b;
-        out = λ e. absurd (omega arith);
-        taken = λ _ _. refl;
-        flag = elim (r .flag) [ inl k ↦ inl k | inr k ↦ absurd (omega (arith, k .2)) ];
-      }, refl, note-form 8 x (row s x .succ) 0 (omega arith) (omega arith) lx (b .1) (omega arith) refl refl)
+      conclude-form s x _ f (roomy t11) (
+        record {
+          state = omega arith;
+          lock = omega arith;
+          unlinked = λ l. absurd (omega arith);
+          linked = λ _. b;
+          out = λ e. absurd (omega arith);
+          taken = λ _ _. refl;
+          flag = elim (r .flag) [ inl k ↦ inl k | inr k ↦ absurd (omega (arith, k .2)) ];
+        },
+        refl,
+        note-form 8 x (row s x .succ) 0 (omega arith) (omega arith) lx (b .1) (omega arith) refl refl,
+      )
 
   -- one question more asked
   more-asked : (m : Message) → MessageForm (count s) (s .asked) m → MessageForm (count s) (s .asked + 1) m

@@ -3,7 +3,6 @@ use mathlib.Core.Bool.{Bool, true, false, not}
 use lib.Dec.{T}
 
 infixr 5 if_then_else_
-
 unfoldable pub if_then_else_ : {A : Type 0} → Bool → A → A → A
 if true then x else y = x
 if false then x else y = y

@@ -1,0 +1,101 @@
+-- Laws of a record under calls, for EVERY record and command: an accepted step, and an accepted fresh, leave it well formed; words past
+-- the record are kept; on well-formed records words and state are inverse. Assumes nothing.
+use mathlib.Core.Path.{_≡_, refl, sym, _∙_, ap, subst}
+use mathlib.Core.Bool.{Bool, true, false, _&&_}
+use mathlib.Core.List.{List, _++_}
+use Prim.Native.Nat.{ℕ, _≤_, _<_}
+use native.Mathlib.Omega.{arith}
+use lib.Dec.{T, leb, leb→le, le→leb}
+use lib.ListN.{length, drop, length-append, length-drop}
+use Rattle.lists.specs.Choice.{if_then_else_, choose, passes}
+use Rattle.lists.specs.Tests.{and-both, T-true, true-T, distinct, says-distinct}
+use Rattle.protocol.specs.declared.Answer.{Answer}
+use Rattle.protocol.specs.declared.Answer.the-variants.{Quiet}
+use Rattle.protocol.specs.declared.Outcome.{Outcome}
+use Rattle.protocol.specs.declared.Outcome.the-variants.{Refused, Answered}
+use Rattle.protocol.specs.Record.{round, mostNodes, recordSize, State, read, words}
+use Rattle.protocol.specs.WellFormed.{wellFormed}
+use Rattle.protocol.specs.Fresh.{fresh}
+use Rattle.protocol.specs.Step.{Result, refused, accepted, step}
+use Rattle.protocol.specs.Calls.{Called, long, written, turnedDown, stepCall, freshCall}
+use Rattle.layout.specs.Words.{words-read, drop-words, length-words}
+use Rattle.layout.specs.Form.{Form, tidy, form-of, well-formed-words}
+use Rattle.atomicity.specs.Preserved.{Leaves, leaves-form, leaves-refused, step-form, fresh-form}
+
+-- What a call may do to the words: keep them all, or leave a well-formed record with the later words as they were.
+pub record Kept (w v : List ℕ) : Type 0 where
+  pub size : length v ≡ length w
+  pub later : drop recordSize v ≡ drop recordSize w
+
+abbrev pub Sound : List ℕ → Called → Type 0
+Sound w r = Kept w (r .words) × ((a : Answer) → r .outcome ≡ Answered a → wellFormed (r .words) ≡ true)
+
+turned-sound : (w : List ℕ) (k : ℕ) → Sound w (turnedDown k w)
+turned-sound w k = (record { size = refl; later = refl }, λ a e. absurd (no-answer e))
+  where
+    isRefused : Outcome → Type 0
+    isRefused = elim [ Refused j ↦ Unit {0} | Answered a ↦ ⊥ ]
+
+    no-answer : {a : Answer} → Refused k ≡ Answered a → ⊥
+    no-answer e = subst isRefused e tt
+
+written-sound : (w : List ℕ) (r : Result) → recordSize ≤ length w → Leaves r → Sound w (written w r)
+unfolding written
+written-sound w (refused k) l f = turned-sound w k
+written-sound w (accepted a s) l f =
+    let g = leaves-form a s f in
+    let z = length-words s (drop recordSize w) (g .few) (g .short) in (
+      record {
+        size = length-append (words s) (drop recordSize w) ∙ omega (arith, z, length-drop recordSize w);
+        later = drop-words s (drop recordSize w) (g .few) (g .short);
+      },
+      λ b e. T-true _ (well-formed-words s (drop recordSize w) g),
+    )
+
+-- An accepted step leaves the record well formed.
+pub step-sound : (w : List ℕ) (operation x y : ℕ) → y < round → Sound w (stepCall w operation x y)
+unfolding stepCall long
+step-sound w operation x y ly =
+    choose (Sound w) (leb recordSize (length w)) _ _
+    (λ t. choose (Sound w) (wellFormed w) _ _
+    (λ ok. written-sound w (step (read w) operation x y) (leb→le recordSize (length w) t) (step-form (read w) (form-of w ok) operation x y ly))
+    (λ _. turned-sound w 2))
+    (λ _. turned-sound w 1)
+
+-- So does an accepted fresh.
+pub fresh-sound : (w ids : List ℕ) → Sound w (freshCall w ids)
+unfolding freshCall long
+fresh-sound w ids =
+    choose (Sound w) (leb recordSize (length w)) _ _
+    (λ t. go (leb→le recordSize (length w) t) (leb 1 (length ids)) (leb→le 1 (length ids)) (leb (length ids) mostNodes) (leb→le (length ids) mostNodes))
+    (λ _. turned-sound w 1)
+  where
+    founded : recordSize ≤ length w → 1 ≤ length ids → length ids ≤ mostNodes → Sound w (if distinct ids then written w (accepted Quiet (fresh ids)) else turnedDown 14 w)
+    founded l some few =
+        choose (Sound w) (distinct ids) _ _
+        (λ d. written-sound w (accepted Quiet (fresh ids)) l (leaves (fresh-form ids some few (says-distinct ids .to d)))) (λ _. turned-sound w 14)
+      where
+        leaves : Form (fresh ids) → Leaves (accepted Quiet (fresh ids))
+        leaves f = Rattle.atomicity.specs.Preserved.leaves-accepted Quiet (fresh ids) f
+
+    go : recordSize ≤ length w → (a : Bool) → (T a → 1 ≤ length ids) → (b : Bool) → (T b → length ids ≤ mostNodes)
+        → Sound w (if a && b then (if distinct ids then written w (accepted Quiet (fresh ids)) else turnedDown 14 w) else turnedDown 13 w)
+    go l true f true g = passes (Sound w) true _ _ tt (founded l (f tt) (g tt))
+    go l true f false g = choose (Sound w) false _ _ (λ t. absurd t) (λ _. turned-sound w 13)
+    go l false f b g = choose (Sound w) false _ _ (λ t. absurd t) (λ _. turned-sound w 13)
+
+-- On well-formed records words and state are inverse. (What is written is read: `read-words` of `layout`.)
+pub words-of-read : (w : List ℕ) → recordSize ≤ length w → wellFormed w ≡ true → words (read w) ++ drop recordSize w ≡ w
+words-of-read w l ok = words-read w (tidy w (true-T _ ok) l)
+
+-- What a fresh call of a good list of identifiers gives.
+pub fresh-gives : (w ids : List ℕ) → recordSize ≤ length w → T (leb 1 (length ids)) → T (leb (length ids) mostNodes) → T (distinct ids)
+    → freshCall w ids ≡ record { outcome = Answered Quiet; words = words (fresh ids) ++ drop recordSize w }
+unfolding freshCall long written
+fresh-gives w ids l some few differ =
+    passes (λ z. z ≡ r) _ _ _ (le→leb _ _ l)
+    (passes (λ z. z ≡ r) _ _ _ (and-both (leb 1 (length ids)) (leb (length ids) mostNodes) some few)
+    (passes (λ z. z ≡ r) _ _ _ differ refl))
+  where
+    r : Called
+    r = record { outcome = Answered Quiet; words = words (fresh ids) ++ drop recordSize w }
