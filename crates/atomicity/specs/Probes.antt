@@ -111,13 +111,13 @@ module _ (tail : List ℕ) where
 -- What is computed for a probe, and the premises of a ring's.
 abbrev Computes : Probe → Type 0
 Computes (interval a b v is) = within round a b v ≡ is
-Computes (ring ids calls lines) =
-    T (leb 1 (length ids)) × T (leb (length ids) mostNodes) × T (distinct ids) × All Words calls × (quiet ∷ outcomesOf (fresh ids) calls ≡ lines)
+Computes (ring ids calls text) =
+    T (leb 1 (length ids)) × T (leb (length ids) mostNodes) × T (distinct ids) × All Words calls × (quiet ∷ outcomesOf (fresh ids) calls ≡ text)
 
 -- A ring's lines are those of its fresh state.
 passes : (p : Probe) → Computes p → Passes p
 passes (interval a b v is) e = e
-passes (ring ids calls lines) k slice l =
+passes (ring ids calls text) k = λ slice l.
     ap (λ z. z .outcome ∷ outcomes (z .words) calls) (fresh-gives slice ids l (k .0) (k .1) (k .2))
     ∙ ap (λ z. quiet ∷ z)
     (outcomes-are (drop recordSize slice) (fresh ids) (fresh-form ids (leb→le 1 (length ids) (k .0)) (leb→le (length ids) mostNodes (k .1)) (says-distinct ids .to (k .2))) calls (k .3))
