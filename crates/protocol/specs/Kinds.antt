@@ -11,12 +11,13 @@ use Rattle.protocol.specs.declared.Route.{Route}
 use Rattle.protocol.specs.declared.Route.the-variants.{Own, To}
 use Rattle.protocol.specs.declared.Decision.{Decision}
 use Rattle.protocol.specs.declared.Decision.the-variants.{Refuse, Reply, Send}
+use Rattle.protocol.specs.Names.{LOOKUP, JOIN, JOINRETRY, JOINPOINT, NEWSUCC, NEWSUCCACK, JOINDONE, LEAVEREQ, LEAVERETRY, LEAVEGRANT, LEAVEPOINT, UPDATESUCC, STOPFORWARD, LEAVEDONE}
 use Rattle.protocol.specs.Record.{none}
 use Rattle.protocol.specs.Routing.{inRing, inside, route}
 
 -- A question, and a message of any other kind, in which b and hops are 0.
 abbrev pub question : ℕ → ℕ → ℕ → ℕ → ℕ → Message
-question from to v ticket hops = record { kind = 1; from = from; to = to; a = v; b = ticket; hops = hops }
+question from to v ticket hops = record { kind = LOOKUP; from = from; to = to; a = v; b = ticket; hops = hops }
 
 abbrev pub note : ℕ → ℕ → ℕ → ℕ → Message
 note kind from to a = record { kind = kind; from = from; to = to; a = a; b = 0; hops = 0 }
@@ -58,14 +59,14 @@ lookup p h m = if inRing h then lookedUp h m (route p h (m .from) (m .a)) else R
 -- JOINRETRY to a; with lock 0 it locks, sets the flag, oldpred = pred, pred = a, sends JOINPOINT (a = oldpred) to hub a and answers
 -- entered.' p is the identifier of t's pred, and g the row of hub a.
 abbrev pub joinRetried : Row → Message → Decision
-joinRetried h m = Send h (note 3 (m .to) (m .a) 0) Quiet
+joinRetried h m = Send h (note JOINRETRY (m .to) (m .a) 0) Quiet
 
 abbrev pub admitted : Row → ℕ → Row
 admitted h a = withPred (withFlag (withLock h 1) 1 (h .pred)) a
 
 unfoldable pub joined : Row → Message → Route → Decision
-joined h m Own = if eqb (h .lock) 1 then joinRetried h m else Send (admitted h (m .a)) (note 4 (m .to) (m .a) (h .pred)) (Entered (m .a))
-joined h m (To z) = Send h (note 2 (m .to) z (m .a)) Quiet
+joined h m Own = if eqb (h .lock) 1 then joinRetried h m else Send (admitted h (m .a)) (note JOINPOINT (m .to) (m .a) (h .pred)) (Entered (m .a))
+joined h m (To z) = Send h (note JOIN (m .to) z (m .a)) Quiet
 
 unfoldable pub join : ℕ → Row → Row → Message → Decision
 join p h g m =
@@ -80,15 +81,15 @@ joinRetry h m = if eqb (h .state) 1 then Reply (withLock (withState h 0) 0) (Joi
 -- 4 JOINPOINT: 'state 1. State 2, pred = a, succ = f; NEWSUCC to a.'
 unfoldable pub joinPoint : Row → Message → Decision
 joinPoint h m =
-    if eqb (h .state) 1 then Send (withSucc (withPred (withState h 2) (m .a)) (m .from)) (note 5 (m .to) (m .a) 0) Quiet else Refuse 10
+    if eqb (h .state) 1 then Send (withSucc (withPred (withState h 2) (m .a)) (m .from)) (note NEWSUCC (m .to) (m .a) 0) Quiet else Refuse 10
 
 -- 5 NEWSUCC: 'state 2 or 3. NEWSUCCACK (a = f) to succ; then succ = f.'
 unfoldable pub newSucc : Row → Message → Decision
-newSucc h m = if inside h then Send (withSucc h (m .from)) (note 6 (m .to) (h .succ) (m .from)) Quiet else Refuse 10
+newSucc h m = if inside h then Send (withSucc h (m .from)) (note NEWSUCCACK (m .to) (h .succ) (m .from)) Quiet else Refuse 10
 
 -- 6 NEWSUCCACK: 'flag 1. Flag 0, oldpred none, lock 0; JOINDONE to a.'
 unfoldable pub newSuccAck : Row → Message → Decision
-newSuccAck h m = if eqb (h .flag) 1 then Send (withLock (withFlag h 0 none) 0) (note 7 (m .to) (m .a) 0) Quiet else Refuse 10
+newSuccAck h m = if eqb (h .flag) 1 then Send (withLock (withFlag h 0 none) 0) (note JOINDONE (m .to) (m .a) 0) Quiet else Refuse 10
 
 -- 7 JOINDONE: 'state 2, lock 1, flag 0. Lock 0. Joined.'
 unfoldable pub joinDone : Row → Message → Decision
@@ -99,7 +100,7 @@ joinDone h m =
 unfoldable pub leaveReq : Row → Message → Decision
 leaveReq h m =
     if inRing h
-    then (if eqb (h .lock) 1 then Send h (note 9 (m .to) (m .from) 0) Quiet else Send (withLock h 1) (note 10 (m .to) (m .from) 0) Quiet)
+    then (if eqb (h .lock) 1 then Send h (note LEAVERETRY (m .to) (m .from) 0) Quiet else Send (withLock h 1) (note LEAVEGRANT (m .to) (m .from) 0) Quiet)
     else Refuse 10
 
 -- 9 LEAVERETRY: 'state 3. State 2, lock 0. Leave turned away.'
@@ -108,23 +109,23 @@ leaveRetry h m = if eqb (h .state) 3 then Reply (withLock (withState h 2) 0) (Le
 
 -- 10 LEAVEGRANT: 'state 3. State 4; LEAVEPOINT (a = pred) to f.'
 unfoldable pub leaveGrant : Row → Message → Decision
-leaveGrant h m = if eqb (h .state) 3 then Send (withState h 4) (note 11 (m .to) (m .from) (h .pred)) Quiet else Refuse 10
+leaveGrant h m = if eqb (h .state) 3 then Send (withState h 4) (note LEAVEPOINT (m .to) (m .from) (h .pred)) Quiet else Refuse 10
 
 -- 11 LEAVEPOINT: 'state 2, lock 1. pred = a; UPDATESUCC to a. Gone, hub f.'
 unfoldable pub leavePoint : Row → Message → Decision
 leavePoint h m =
-    if eqb (h .state) 2 && eqb (h .lock) 1 then Send (withPred h (m .a)) (note 12 (m .to) (m .a) 0) (Gone (m .from)) else Refuse 10
+    if eqb (h .state) 2 && eqb (h .lock) 1 then Send (withPred h (m .a)) (note UPDATESUCC (m .to) (m .a) 0) (Gone (m .from)) else Refuse 10
 
 -- 12 UPDATESUCC: 'state 2 or 3. STOPFORWARD to succ; then succ = f.'
 unfoldable pub updateSucc : Row → Message → Decision
-updateSucc h m = if inside h then Send (withSucc h (m .from)) (note 13 (m .to) (h .succ) 0) Quiet else Refuse 10
+updateSucc h m = if inside h then Send (withSucc h (m .from)) (note STOPFORWARD (m .to) (h .succ) 0) Quiet else Refuse 10
 
 -- 13 STOPFORWARD: 'state 4. LEAVEDONE to succ; state 0, lock 0, pointers none. Left.'
 abbrev pub departed : Row → Row
 departed h = withSucc (withPred (withLock (withState h 0) 0) none) none
 
 unfoldable pub stopForward : Row → Message → Decision
-stopForward h m = if eqb (h .state) 4 then Send (departed h) (note 14 (m .to) (h .succ) 0) (Left (m .to)) else Refuse 10
+stopForward h m = if eqb (h .state) 4 then Send (departed h) (note LEAVEDONE (m .to) (h .succ) 0) (Left (m .to)) else Refuse 10
 
 -- 14 LEAVEDONE: 'state 2, lock 1, flag 0. Lock 0.'
 unfoldable pub leaveDone : Row → Message → Decision
@@ -133,18 +134,18 @@ leaveDone h m = if eqb (h .state) 2 && eqb (h .lock) 1 && eqb (h .flag) 0 then R
 -- By kind. (No other kind is well formed.)
 unfoldable pub handle : ℕ → Row → Row → Message → Decision
 handle p h g m =
-    if eqb (m .kind) 1 then lookup p h m
-    else if eqb (m .kind) 2 then join p h g m
-    else if eqb (m .kind) 3 then joinRetry h m
-    else if eqb (m .kind) 4 then joinPoint h m
-    else if eqb (m .kind) 5 then newSucc h m
-    else if eqb (m .kind) 6 then newSuccAck h m
-    else if eqb (m .kind) 7 then joinDone h m
-    else if eqb (m .kind) 8 then leaveReq h m
-    else if eqb (m .kind) 9 then leaveRetry h m
-    else if eqb (m .kind) 10 then leaveGrant h m
-    else if eqb (m .kind) 11 then leavePoint h m
-    else if eqb (m .kind) 12 then updateSucc h m
-    else if eqb (m .kind) 13 then stopForward h m
-    else if eqb (m .kind) 14 then leaveDone h m
+    if eqb (m .kind) LOOKUP then lookup p h m
+    else if eqb (m .kind) JOIN then join p h g m
+    else if eqb (m .kind) JOINRETRY then joinRetry h m
+    else if eqb (m .kind) JOINPOINT then joinPoint h m
+    else if eqb (m .kind) NEWSUCC then newSucc h m
+    else if eqb (m .kind) NEWSUCCACK then newSuccAck h m
+    else if eqb (m .kind) JOINDONE then joinDone h m
+    else if eqb (m .kind) LEAVEREQ then leaveReq h m
+    else if eqb (m .kind) LEAVERETRY then leaveRetry h m
+    else if eqb (m .kind) LEAVEGRANT then leaveGrant h m
+    else if eqb (m .kind) LEAVEPOINT then leavePoint h m
+    else if eqb (m .kind) UPDATESUCC then updateSucc h m
+    else if eqb (m .kind) STOPFORWARD then stopForward h m
+    else if eqb (m .kind) LEAVEDONE then leaveDone h m
     else Refuse 10

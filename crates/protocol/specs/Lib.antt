@@ -1,3 +1,4 @@
+pub mod Names
 pub mod Record
 pub mod WellFormed
 pub mod Fresh

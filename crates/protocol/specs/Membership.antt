@@ -12,6 +12,7 @@ use Rattle.protocol.specs.declared.Answer.{Answer}
 use Rattle.protocol.specs.declared.Answer.the-variants.{Quiet, Found, Entered, Gone, JoinTurnedAway, LeaveTurnedAway, Joined, Left}
 use Rattle.protocol.specs.declared.Outcome.{Outcome}
 use Rattle.protocol.specs.declared.Outcome.the-variants.{Refused, Answered}
+use Rattle.protocol.specs.Names.{LOOKUP}
 use Rattle.protocol.specs.Record.{round}
 use Rattle.protocol.specs.Fresh.{founder}
 
@@ -58,7 +59,7 @@ ownerAmong ids (h ∷ members) v = nearer ids v h (ownerAmong ids members v)
 -- 'questions waiting are the LOOKUP messages in the record'
 unfoldable pub waiting : List Message → ℕ
 waiting [] = 0
-waiting (m ∷ messages) = (if eqb (m .kind) 1 then 1 else 0) + waiting messages
+waiting (m ∷ messages) = (if eqb (m .kind) LOOKUP then 1 else 0) + waiting messages
 
 -- 'questions answered are the found answers', each here by its ticket
 abbrev pub foundTicket : Answer → List ℕ

@@ -13,6 +13,7 @@ use Rattle.protocol.specs.declared.Route.{Route}
 use Rattle.protocol.specs.declared.Route.the-variants.{Own, To}
 use Rattle.protocol.specs.declared.Decision.{Decision}
 use Rattle.protocol.specs.declared.Decision.the-variants.{Refuse, Reply, Send}
+use Rattle.protocol.specs.Names.{JOIN, LEAVEREQ}
 use Rattle.protocol.specs.Record.{mostMessages, State, count, row, identifier, message, withRow, sent, taken}
 use Rattle.protocol.specs.Routing.{inRing, onward}
 use Rattle.protocol.specs.Kinds.{question, note, withState, withLock, handle}
@@ -60,7 +61,7 @@ join s x y =
     (require (eqb (row s x .state) 0) 6
     (require (inRing (row s y)) 5
     (require (room s) 11
-    (conclude s x (Send (withLock (withState (row s x) 1) 1) (note 2 x y x) Quiet)))))
+    (conclude s x (Send (withLock (withState (row s x) 1) 1) (note JOIN x y x) Quiet)))))
 
 -- 2 leave, hub x (y not read): 'x gets state 3, locked; sends LEAVEREQ to its succ.'
 -- 'x in state 2 to 4? 5. Lock free? 7. succ another hub? 8. m below 256? 11.'
@@ -71,7 +72,7 @@ leave s x =
     (require (eqb (row s x .lock) 0) 7
     (require (not (eqb (row s x .succ) x)) 8
     (require (room s) 11
-    (conclude s x (Send (withLock (withState (row s x) 3) 1) (note 8 x (row s x .succ) 0) Quiet))))))
+    (conclude s x (Send (withLock (withState (row s x) 3) 1) (note LEAVEREQ x (row s x .succ) 0) Quiet))))))
 
 -- 3 deliver from x to y: 'the oldest message with that from and to'; its place, or the number of messages where there is none
 unfoldable pub onLink : State → ℕ → ℕ → ℕ → Bool

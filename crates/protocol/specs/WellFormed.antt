@@ -8,6 +8,7 @@ use Rattle.lists.specs.Choice.{if_then_else_}
 use Rattle.lists.specs.Tests.{every, distinct}
 use Rattle.protocol.specs.declared.Row.{Row}
 use Rattle.protocol.specs.declared.Message.{Message}
+use Rattle.protocol.specs.Names.{LOOKUP, JOIN, JOINPOINT, NEWSUCCACK, LEAVEPOINT}
 use Rattle.protocol.specs.Record.{round, form, mostNodes, mostMessages, rowSize, messageSize, rowStart, messageStart, none, State, count, countIn, messagesIn, read}
 
 -- 'states 0 and 1 have pred and succ none, states 2 to 4 have both below n'
@@ -30,13 +31,13 @@ rowOk n h = pointersOk n h && lockOk h && flagOk n h
 -- 'LOOKUP has any a, b below asked and hops at most 65535; JOIN, JOINPOINT, NEWSUCCACK and LEAVEPOINT have a below n; other
 -- message fields are 0': what each field of a message of kind k is below.
 unfoldable pub limitA : ℕ → ℕ → ℕ
-limitA n k = if eqb k 1 then round else if eqb k 2 || eqb k 4 || eqb k 6 || eqb k 11 then n else 1
+limitA n k = if eqb k LOOKUP then round else if eqb k JOIN || eqb k JOINPOINT || eqb k NEWSUCCACK || eqb k LEAVEPOINT then n else 1
 
 unfoldable pub limitB : ℕ → ℕ → ℕ
-limitB asked k = if eqb k 1 then asked else 1
+limitB asked k = if eqb k LOOKUP then asked else 1
 
 unfoldable pub limitHops : ℕ → ℕ
-limitHops k = if eqb k 1 then 65536 else 1
+limitHops k = if eqb k LOOKUP then 65536 else 1
 
 -- 'kinds 1 to 14; from and to below n'
 unfoldable pub messageOk : ℕ → ℕ → Message → Bool
