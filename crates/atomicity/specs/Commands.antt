@@ -8,6 +8,7 @@ use native.Mathlib.Omega.{arith}
 use lib.Dec.{T, leb, ltb, eqb, leb→le, ltb→lt, eqb→eq, T-not}
 use lib.ListN.{length, set, length-set}
 use Rattle.clockwise.specs.Laws.{In}
+use Rattle.lists.specs.Choice.{require, tested}
 use Rattle.lists.specs.Members.{Mem, mem-split, times, ind, ind-cases, ind-same, ind-ne}
 use Rattle.lists.specs.Tests.{and-left, and-right, →eqb}
 use Rattle.protocol.specs.declared.Row.{Row}
@@ -16,7 +17,7 @@ use Rattle.protocol.specs.declared.Decision.the-variants.{Send}
 use Rattle.protocol.specs.Record.{round, State, count, row, withRow, sent}
 use Rattle.protocol.specs.Routing.{inRing}
 use Rattle.protocol.specs.Step as step
-use Rattle.protocol.specs.Step.{Result, require, conclude, room, asking, ticketed}
+use Rattle.protocol.specs.Step.{Result, refused, conclude, room, asking}
 use Rattle.atomicity.specs.Members.{mark}
 use Rattle.atomicity.specs.Neighbours.{owner-of}
 use Rattle.atomicity.specs.Invariant.{Hubs, taken, Msg, erase, Linked, Inv}
@@ -24,7 +25,7 @@ use Rattle.atomicity.specs.Invariant.{lookup, join, leaveReq}
 use Rattle.atomicity.specs.OneStep.{no-join, apart-more}
 use Rattle.atomicity.specs.Roles.{outside-free}
 use Rattle.atomicity.specs.Calm.{Rewritten, points-row, fwd-same, Serves, calm, busy, sent as calm-sent}
-use Rattle.atomicity.specs.Good.{coreOf, rowOf, hubs, rewritten, kept-names, waits, asks, total, total-append, Numbers, nums, Holds, Good, Fine, fine-accepted, fine-refused, tested, onward-fine}
+use Rattle.atomicity.specs.Good.{coreOf, rowOf, hubs, rewritten, kept-names, waits, asks, total, total-append, Numbers, nums, Holds, Good, Fine, fine-accepted, fine-refused, onward-fine}
 
 -- state 2 to 4
 pub ring-states : (h : Row) → T (inRing h) → (2 ≤ h .state) × (h .state ≤ 4)
@@ -110,8 +111,8 @@ module _ (id : ℕ → ℕ) (small : (h : ℕ) → id h < round) (c : ℕ) (s : 
   abbrev Ok : ℕ → Result → Type 0
   Ok q r = Fine id c members ks q true r
 
-  test : (q : ℕ) (b : Bool) (k : ℕ) (r : Result) → (T b → Ok q r) → Ok q (require b k r)
-  test q b k r f = tested (Ok q) b k r f (fine-refused id c members ks q k)
+  test : (q : ℕ) (b : Bool) (k : ℕ) (r : Result) → (T b → Ok q r) → Ok q (require b (refused k) r)
+  test q b k r f = tested (Ok q) b (refused k) r (fine-refused id c members ks q k) f
 
   numbers-more : (u : Msg) → Numbers c u → (x : Msg) → Mem x (G .ms ++ (u ∷ [])) → Numbers c x
   numbers-more u nu x k = go (mem-split x (G .ms) (u ∷ []) k)

@@ -21,9 +21,9 @@ use Rattle.protocol.specs.declared.Route.the-variants.{Own, To}
 use Rattle.protocol.specs.declared.Decision.{Decision}
 use Rattle.protocol.specs.declared.Decision.the-variants.{Refuse, Reply, Send}
 use Rattle.protocol.specs.Record.{round, State, outside, withRow, sent}
-use Rattle.protocol.specs.Routing.{inRing, inside}
+use Rattle.protocol.specs.Routing.{inRing, responsible}
 use Rattle.protocol.specs.Kinds as kinds
-use Rattle.protocol.specs.Kinds.{note, question, grown, lookedUp, joined, admitted, handle}
+use Rattle.protocol.specs.Kinds.{note, question, grown, lookupRouted, joinRouted, admitted, handle}
 use Rattle.protocol.specs.Step.{Result, accepted, conclude}
 use Rattle.protocol.specs.Membership.{afterAnswer, foundTicket}
 use Rattle.atomicity.specs.Members.{mark, taken-same, taken-other, struck-same, struck-other}
@@ -44,9 +44,9 @@ in-ring : (h : Row) → 2 ≤ h .state → h .state ≤ 4 → T (inRing h)
 unfolding inRing
 in-ring h l u = and-both (leb 2 (h .state)) (ltb (h .state) 5) (le→leb 2 (h .state) l) (lt→ltb (h .state) 5 (omega arith))
 
-is-inside : (h : Row) → 2 ≤ h .state → h .state ≤ 3 → T (inside h)
-unfolding inside
-is-inside h l u = and-both (leb 2 (h .state)) (ltb (h .state) 4) (le→leb 2 (h .state) l) (lt→ltb (h .state) 4 (omega arith))
+is-responsible : (h : Row) → 2 ≤ h .state → h .state ≤ 3 → T (responsible h)
+unfolding responsible
+is-responsible h l u = and-both (leb 2 (h .state)) (ltb (h .state) 4) (le→leb 2 (h .state) l) (lt→ltb (h .state) 4 (omega arith))
 
 two-eqb : (a x b y : ℕ) → a ≡ x → b ≡ y → T (eqb a x && eqb b y)
 two-eqb a x b y e f = and-both (eqb a x) (eqb b y) (→eqb a x e) (→eqb b y f)
@@ -139,7 +139,7 @@ module _ (id : ℕ → ℕ) (small : (h : ℕ) → id h < round) (c : ℕ) (inj 
   unfolding kinds.newSucc
   new-succ-fine a b p cl H =
       let L = loc-of (newSucc a b p) H in
-      passes (Ok p) _ _ _ (is-inside _ (L .3 .low) (L .3 .high))
+      passes (Ok p) _ _ _ (is-responsible _ (L .3 .low) (L .3 .high))
       (send (newSucc a b p) H _ refl Quiet (newSuccAck a b p) _ (ap (λ z. note 6 p z a) (L .3 .at)) tt
       (joins.new-succ round id small c S _ s t a b p cl (H .inv) (row-of (newSucc a b p) H _) (λ h. refl)) (λ k. omega arith) (omega arith)
       (nums (newSuccAck a b p) (num-of (newSucc a b p) H .dst) (H .inv .below b (omega (arith, L .2 .state))) (λ e. omega arith)))
@@ -208,7 +208,7 @@ module _ (id : ℕ → ℕ) (small : (h : ℕ) → id h < round) (c : ℕ) (inj 
   unfolding kinds.updateSucc
   update-succ-fine q b p cl H =
       let L = loc-of (updateSucc q b p) H in
-      passes (Ok p) _ _ _ (is-inside _ (L .2 .low) (L .2 .high))
+      passes (Ok p) _ _ _ (is-responsible _ (L .2 .low) (L .2 .high))
       (send (updateSucc q b p) H _ refl Quiet (stopForward q b p) _ (ap (λ z. note 13 p z 0) (L .2 .at)) tt
       (leaves.update-succ round id small c S _ s t q b p cl (H .inv) (row-of (updateSucc q b p) H _) (λ h. refl)) (λ k. omega arith) (omega arith)
       (nums (stopForward q b p) (num-of (updateSucc q b p) H .dst) (H .inv .below q (omega (arith, L .0 .state))) (λ e. omega arith)))
@@ -236,9 +236,9 @@ module _ (id : ℕ → ℕ) (small : (h : ℕ) → id h < round) (c : ℕ) (inj 
 
   lookup-fine : (x y v k h : ℕ) → Clear (lookup x y v k h) s → With (lookup x y v k h)
       → Ok y (kinds.lookup (rowOf rows (rowOf rows y .pred) .identifier) (rowOf rows y) (erase (lookup x y v k h)))
-  unfolding kinds.lookup lookedUp
+  unfolding kinds.lookup lookupRouted
   lookup-fine x y v k h cl H =
-      passes (Ok y) _ _ _ (in-ring _ (w .0) (w .1)) (route-fine (Ok y) (lookedUp (rowOf rows y) (erase (lookup x y v k h))) _ (rowOf rows y) v x
+      passes (Ok y) _ _ _ (in-ring _ (w .0) (w .1)) (route-fine (Ok y) (lookupRouted (rowOf rows y) (erase (lookup x y v k h))) _ (rowOf rows y) v x
       (λ f. pass (rowOf rows y .pred) (inr (inr (record { flag = f; pred = refl; entered = λ p m. m }))) (newcomer (H .inv) y f))
       (pass (rowOf rows y .succ) (inr (inl (record { low = w .0; high = w .1; at = refl }))) (omega (arith, H .inv .fwd y (w .0) (w .1) .low)))
       (λ ne own. reply m H (rowOf rows y) refl (Found y v k (grown (erase m)))
@@ -267,11 +267,11 @@ module _ (id : ℕ → ℕ) (small : (h : ℕ) → id h < round) (c : ℕ) (inj 
 
   join-fine : (x y a : ℕ) → Clear (join x y a) s → With (join x y a)
       → Ok y (kinds.join (rowOf rows (rowOf rows y .pred) .identifier) (rowOf rows y) (rowOf rows a) (erase (join x y a)))
-  unfolding kinds.join joined
+  unfolding kinds.join joinRouted
   join-fine x y a cl H =
       passes (Ok y) _ _ _ (→eqb _ 1 (L .0)) (choose (Ok y) (ltb (rowOf rows y .state) 2) _ _ (λ z. again)
       (λ z. let l : 2 ≤ rowOf rows y .state = nltb→le (rowOf rows y .state) 2 z in
-      route-fine (Ok y) (joined (rowOf rows y) (erase m)) _ (rowOf rows y) (rowOf rows a .identifier) x
+      route-fine (Ok y) (joinRouted (rowOf rows y) (erase m)) _ (rowOf rows y) (rowOf rows a .identifier) x
       (λ f. pass (rowOf rows y .pred) (newcomer (H .inv) y f))
       (pass (rowOf rows y .succ) (omega (arith, H .inv .fwd y l (state-le (H .inv) y) .low)))
       (λ ne own. choose (Ok y) (eqb (rowOf rows y .lock) 1) _ _ (λ q. again)

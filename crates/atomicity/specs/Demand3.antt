@@ -1,5 +1,6 @@
 -- DEMAND 3, stated: what is claimed of every list of calls from every fresh ring. Its proof is `demand-3` in Theorem.antt.
--- Nothing but definitions of `protocol` stands in it, which cite document 01, and these few about lists of calls.
+-- It cites the definitions of `protocol`, each of which cites document 01, and these few about lists of calls. (From `lists`: Mem, being an
+-- element; All, of each element; times, how often a number stands in a list.)
 use mathlib.Core.Path.{_≡_}
 use mathlib.Core.Bool.{true}
 use mathlib.Core.List.{List, [], _∷_, _++_}
@@ -11,8 +12,8 @@ use Rattle.protocol.specs.declared.Answer.the-variants.{Quiet, Found}
 use Rattle.protocol.specs.declared.Outcome.{Outcome}
 use Rattle.protocol.specs.declared.Outcome.the-variants.{Refused, Answered}
 use Rattle.protocol.specs.Record.{round, read}
-use Rattle.protocol.specs.Calls.{Called, stepCall, freshCall, holds}
-use Rattle.protocol.specs.Membership.{foundingMembers, afterOutcome, node, ownerAmong, waiting, ticketOf, acceptedAsk}
+use Rattle.protocol.specs.Calls.{Called, stepCall, freshCall}
+use Rattle.protocol.specs.Membership.{foundingMembers, afterOutcome, node, ownerAmong, holds, waiting, ticketOf, acceptedAsk}
 
 -- A call of the list: 'steps with any three numbers as command'.
 pub record Call : Type 0 where
@@ -24,7 +25,7 @@ pub record Call : Type 0 where
 abbrev pub Word : ℕ → Type 0
 Word n = n < round
 
-pub record Words (c : Call) : Type 0 where
+pub record ThreeWords (c : Call) : Type 0 where
   pub operation : Word (c .operation)
   pub x : Word (c .x)
   pub y : Word (c .y)
@@ -40,11 +41,11 @@ pub record Event : Type 0 where
 -- 'Each gets the record as the call before left it, after a refusal too'.
 unfoldable pub history : List ℕ → List Call → List Event
 history w [] = []
-history w (c ∷ calls) = record { call = c; outcome = called w c .outcome } ∷ history (called w c .words) calls
+history w (c ∷ calls) = record { call = c; outcome = called w c .outcome } ∷ history (called w c .slice) calls
 
 unfoldable pub recordAfter : List ℕ → List Call → List ℕ
 recordAfter w [] = w
-recordAfter w (c ∷ calls) = recordAfter (called w c .words) calls
+recordAfter w (c ∷ calls) = recordAfter (called w c .slice) calls
 
 -- The ledger after some calls, from its members before them.
 unfoldable pub membersAfter : List ℕ → List Event → List ℕ
@@ -52,9 +53,9 @@ membersAfter members [] = members
 membersAfter members (e ∷ events) = membersAfter (afterOutcome members (e .outcome)) events
 
 -- Questions accepted; and the tickets of the found answers, one for each question answered.
-unfoldable pub accepted : List Event → ℕ
-accepted [] = 0
-accepted (e ∷ events) = acceptedAsk (e .call .operation) (e .outcome) + accepted events
+unfoldable pub questionsAccepted : List Event → ℕ
+questionsAccepted [] = 0
+questionsAccepted (e ∷ events) = acceptedAsk (e .call .operation) (e .outcome) + questionsAccepted events
 
 unfoldable pub foundTickets : List Event → List ℕ
 foundTickets [] = []
@@ -63,23 +64,24 @@ foundTickets (e ∷ events) = ticketOf (e .outcome) ++ foundTickets events
 -- What is claimed of a ring of these identifiers, with these calls behind it and the record w.
 pub record Claims (ids : List ℕ) (events : List Event) (w : List ℕ) : Type 0 where
   -- (a) For every machine number at most one hub holds it, and that hub is the ledger's owner of it.
-  pub single : (v h k : ℕ) → Word v → holds (read w) h v ≡ true → holds (read w) k v ≡ true → h ≡ k
-  pub owner : (v h : ℕ) → Word v → holds (read w) h v ≡ true → ownerAmong ids (membersAfter (foundingMembers ids) events) v ≡ node h
+  pub single : (v hub other : ℕ) → Word v → holds (read w) hub v ≡ true → holds (read w) other v ≡ true → hub ≡ other
+  pub owner : (v hub : ℕ) → Word v → holds (read w) hub v ≡ true
+      → ownerAmong ids (membersAfter (foundingMembers ids) events) v ≡ node hub
   -- (b) Each found answer names the ledger's owner of its number at that call: the ledger that the calls before it left.
   pub found : (before : List Event) (e : Event) (after : List Event) → events ≡ before ++ (e ∷ after)
       → (hub number ticket hops : ℕ) → e .outcome ≡ Answered (Found hub number ticket hops)
       → ownerAmong ids (membersAfter (foundingMembers ids) before) number ≡ node hub
   -- (c) Questions accepted = questions answered + questions waiting.
-  pub questions : accepted events ≡ length (foundTickets events) + waiting (read w .messages)
+  pub questions : questionsAccepted events ≡ length (foundTickets events) + waiting (read w .messages)
   -- (d) No two found answers have the same ticket.
   pub once : (ticket : ℕ) → times (foundTickets events) ticket ≤ 1
   -- (e) A next deliver call that names the sender and receiver of any waiting message is not refused.
   pub next : (m : Message) → Mem m (read w .messages) → (k : ℕ)
       → called w (record { operation = 3; x = m .from; y = m .to }) .outcome ≡ Refused k → ⊥
 
--- For every lent slice and every list of identifiers that fresh accepts, and every list of calls, refused ones included.
+-- For every lent slice, every list of identifiers that fresh accepts, and every list of calls, refused ones included.
 unfoldable pub Demand3 : Type 0
 Demand3 =
-    (slice ids : List ℕ) (calls : List Call) (w : List ℕ) → All Word ids → All Words calls
-    → freshCall slice ids ≡ record { outcome = Answered Quiet; words = w }
-    → Claims ids (history w calls) (recordAfter w calls)
+    (slice ids : List ℕ) (calls : List Call) → All Word ids → All ThreeWords calls
+    → freshCall slice ids .outcome ≡ Answered Quiet
+    → Claims ids (history (freshCall slice ids .slice) calls) (recordAfter (freshCall slice ids .slice) calls)

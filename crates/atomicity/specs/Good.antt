@@ -21,8 +21,8 @@ use Rattle.protocol.specs.declared.Answer.the-variants.{Quiet, Found, Entered, 
 use Rattle.protocol.specs.declared.Route.{Route}
 use Rattle.protocol.specs.declared.Route.the-variants.{Own, To}
 use Rattle.protocol.specs.Record.{round, State, outside, withRow}
-use Rattle.protocol.specs.Routing.{inRing, inside, covers, onward, route}
-use Rattle.protocol.specs.Step.{Result, refused, accepted, require}
+use Rattle.protocol.specs.Routing.{inRing, responsible, covers, onward, route}
+use Rattle.protocol.specs.Step.{Result, refused, accepted}
 use Rattle.protocol.specs.Membership.{afterAnswer, foundTicket}
 use Rattle.atomicity.specs.Members.{mark}
 use Rattle.atomicity.specs.Neighbours.{Owner}
@@ -159,15 +159,6 @@ module _ (id : ℕ → ℕ) (c : ℕ) (members ks : List ℕ) (q : ℕ) where
   pub not-refused : (k : ℕ) → Fine false (refused k) → ⊥
   unfolding Fine
   not-refused k x = x
-
--- a question before a call: yes, or either
-pub granted : (P : Result → Type 0) (b : Bool) (k : ℕ) (r : Result) → T b → P r → P (require b k r)
-unfolding require
-granted P b k r t p = passes P b r (refused k) t p
-
-pub tested : (P : Result → Type 0) (b : Bool) (k : ℕ) (r : Result) → (T b → P r) → P (refused k) → P (require b k r)
-unfolding require
-tested P b k r f p = choose P b r (refused k) f (λ _. p)
 
 -- the end of a delivery that changed row r to v (and kept its identifier): m is taken out, new are sent, l is left
 module _ {id : ℕ → ℕ} {c : ℕ} {rows : List Row} {asked : ℕ} {members ks : List ℕ} (s : List Msg) (m : Msg) (t : List Msg)

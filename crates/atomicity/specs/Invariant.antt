@@ -44,7 +44,7 @@ abbrev pub acked : Core → Core
 acked x = record { state = x .state; lock = 0; flag = 0; pred = x .pred; oldpred = 255 }
 
 abbrev pub departed : Core → Core
-departed x = record { state = 0; lock = 0; flag = x .flag; pred = 255; oldpred = x .oldpred }
+departed x = record { state = 0; lock = 0; flag = x .flag; pred = 255; oldpred = 255 }
 
 -- A waiting message with its participants. a joins between p and t; q leaves from between p and t.
 pub data Msg : Type 0 where

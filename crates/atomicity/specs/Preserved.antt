@@ -11,7 +11,7 @@ use native.Mathlib.Omega.{arith}
 use lib.Dec.{T, leb, ltb, eqb, leb→le, ltb→lt, eqb→eq, nltb→le, T-not}
 use lib.ListN.{length, getD, set, take, drop, length-set, length-append, length-take, length-drop, length-map, List·getD-map}
 use lib.Seq.{map-set-same}
-use Rattle.lists.specs.Choice.{if_then_else_, choose, change}
+use Rattle.lists.specs.Choice.{if_then_else_, choose, change, require, tested}
 use Rattle.lists.specs.Members.{Mem, mem-at, mem-split, All}
 use Rattle.lists.specs.Search.{Missed, search-ends}
 use Rattle.lists.specs.Search.{Found as Located}
@@ -24,21 +24,20 @@ use Rattle.protocol.specs.declared.Route.{Route}
 use Rattle.protocol.specs.declared.Route.the-variants.{Own, To}
 use Rattle.protocol.specs.declared.Decision.{Decision}
 use Rattle.protocol.specs.declared.Decision.the-variants.{Refuse, Reply, Send}
-use Rattle.protocol.specs.Record.{round, mostNodes, mostMessages, none, State, count, row, identifier, message, noMessage, outside, withRow, sent, taken}
+use Rattle.protocol.specs.Record.{round, mostNodes, mostMessages, none, State, count, row, identifier, message, noMessage, outside, withRow, sent, taken, ticketed}
 use Rattle.protocol.specs.WellFormed.{limitA, limitB, limitHops, identifiers}
 use Rattle.protocol.specs.Fresh.{founder, alone, foundedBy, fresh}
-use Rattle.protocol.specs.Routing.{inRing, inside, onward, route}
+use Rattle.protocol.specs.Routing.{inRing, responsible, onward, route}
 use Rattle.protocol.specs.Kinds as kinds
-use Rattle.protocol.specs.Kinds.{question, note, grown, lookedUp, joined, admitted, handle}
+use Rattle.protocol.specs.Kinds.{question, note, grown, lookupRouted, joinRouted, admitted, handle}
 use Rattle.protocol.specs.Step as step
-use Rattle.protocol.specs.Step.{Result, refused, accepted, require, conclude, room, asking, ticketed, onLink, oldest, delivered}
+use Rattle.protocol.specs.Step.{Result, refused, accepted, conclude, room, asking, onLink, oldest, delivered}
 use Rattle.layout.specs.Form.{RowForm, MessageForm, Form, row-at}
-use Rattle.atomicity.specs.Good.{tested}
 use Rattle.atomicity.specs.Commands.{ring-states}
 
-pub inside-states : (h : Row) → T (inside h) → (2 ≤ h .state) × (h .state ≤ 3)
-unfolding inside
-inside-states h t =
+pub responsible-states : (h : Row) → T (responsible h) → (2 ≤ h .state) × (h .state ≤ 3)
+unfolding responsible
+responsible-states h t =
     (leb→le 2 (h .state) (and-left (leb 2 (h .state)) (ltb (h .state) 4) t), omega (arith, ltb→lt (h .state) 4 (and-right (leb 2 (h .state)) (ltb (h .state) 4) t)))
 
 -- where a number goes is a hub
@@ -116,25 +115,25 @@ module _ (n q : ℕ) (h : Row) (r : RowForm n h) (m : Message) (ok : MessageForm
       go : m .hops < 65536 → grown m < 65536
       go l = choose (λ z. z < 65536) (ltb (m .hops) 65535) (m .hops + 1) (m .hops) (λ t. omega (arith, ltb→lt (m .hops) 65535 t)) (λ _. l)
 
-  looked-up-sound : m .kind ≡ 1 → (z : Route) → Leads n z → Well (lookedUp h m z)
-  unfolding lookedUp limitA limitB limitHops if_then_else_
-  looked-up-sound e Own l = (r, refl)
-  looked-up-sound e (To z) l =
+  lookup-routed-sound : m .kind ≡ 1 → (z : Route) → Leads n z → Well (lookupRouted h m z)
+  unfolding lookupRouted limitA limitB limitHops if_then_else_
+  lookup-routed-sound e Own l = (r, refl)
+  lookup-routed-sound e (To z) l =
       (r, refl, record { low = omega arith; high = omega arith; from = ok .to; to = l; a = rw e at (ok .a); b = rw e at (ok .b); hops = hops-form e })
 
   lookup-sound : (p : ℕ) → m .kind ≡ 1 → Well (kinds.lookup p h m)
   unfolding kinds.lookup
   lookup-sound p e =
       if-else (inRing h) _
-      (λ t. let b = r .linked (ring-states h t .0) in looked-up-sound e (route p h (m .from) (m .a)) (route-leads n p h (m .from) (m .a) (b .0) (b .1)))
+      (λ t. let b = r .linked (ring-states h t .0) in lookup-routed-sound e (route p h (m .from) (m .a)) (route-leads n p h (m .from) (m .a) (b .0) (b .1)))
 
   retried-sound : m .a < n → Well (kinds.joinRetried h m)
   unfolding limitA limitB limitHops if_then_else_
   retried-sound la = (r, refl, note-form 3 (m .to) (m .a) 0 (omega arith) (omega arith) (ok .to) la (omega arith) refl refl)
 
-  joined-sound : m .a < n → 2 ≤ h .state → (z : Route) → Leads n z → Well (joined h m z)
-  unfolding joined limitA limitB limitHops if_then_else_
-  joined-sound la k Own l =
+  join-routed-sound : m .a < n → 2 ≤ h .state → (z : Route) → Leads n z → Well (joinRouted h m z)
+  unfolding joinRouted limitA limitB limitHops if_then_else_
+  join-routed-sound la k Own l =
       choose Well (eqb (h .lock) 1) _ _ (λ _. retried-sound la)
       (λ t. (enters t, refl, note-form 4 (m .to) (m .a) (h .pred) (omega arith) (omega arith) (ok .to) la (r .linked k .0) refl refl))
     where
@@ -152,14 +151,14 @@ module _ (n q : ℕ) (h : Row) (r : RowForm n h) (m : Message) (ok : MessageForm
         taken = λ _ _. refl;
         flag = inr (refl, two t (ℕ-discrete (h .state) 2), refl, r .linked k .0);
       }
-  joined-sound la k (To z) l = (r, refl, note-form 2 (m .to) z (m .a) (omega arith) (omega arith) (ok .to) l la refl refl)
+  join-routed-sound la k (To z) l = (r, refl, note-form 2 (m .to) z (m .a) (omega arith) (omega arith) (ok .to) l la refl refl)
 
   join-sound : (p : ℕ) (g : Row) → m .a < n → Well (kinds.join p h g m)
   unfolding kinds.join
   join-sound p g la =
       if-else (eqb (g .state) 1) _ (λ _. choose Well (ltb (h .state) 2) _ _ (λ _. retried-sound la)
       (λ t. let k : 2 ≤ h .state = nltb→le (h .state) 2 t in let b = r .linked k in
-      joined-sound la k (route p h (m .from) (g .identifier)) (route-leads n p h (m .from) (g .identifier) (b .0) (b .1))))
+      join-routed-sound la k (route p h (m .from) (g .identifier)) (route-leads n p h (m .from) (g .identifier) (b .0) (b .1))))
 
   join-retry-sound : Well (kinds.joinRetry h m)
   unfolding kinds.joinRetry
@@ -196,8 +195,8 @@ module _ (n q : ℕ) (h : Row) (r : RowForm n h) (m : Message) (ok : MessageForm
 
   new-succ-sound : Well (kinds.newSucc h m)
   unfolding kinds.newSucc limitA limitB limitHops if_then_else_
-  new-succ-sound = if-else (inside h) _ λ t.
-      let w = inside-states h t in
+  new-succ-sound = if-else (responsible h) _ λ t.
+      let w = responsible-states h t in
       (turn (m .from) (ok .from) (w .0), refl, note-form 6 (m .to) (h .succ) (m .from) (omega arith) (omega arith) (ok .to) (r .linked (w .0) .1) (ok .from) refl refl)
 
   new-succ-ack-sound : m .a < n → Well (kinds.newSuccAck h m)
@@ -297,8 +296,8 @@ module _ (n q : ℕ) (h : Row) (r : RowForm n h) (m : Message) (ok : MessageForm
 
   update-succ-sound : Well (kinds.updateSucc h m)
   unfolding kinds.updateSucc limitA limitB limitHops if_then_else_
-  update-succ-sound = if-else (inside h) _ λ t.
-      let w = inside-states h t in
+  update-succ-sound = if-else (responsible h) _ λ t.
+      let w = responsible-states h t in
       (turn (m .from) (ok .from) (w .0), refl, note-form 13 (m .to) (h .succ) 0 (omega arith) (omega arith) (ok .to) (r .linked (w .0) .1) (omega arith) refl refl)
 
   stop-forward-sound : Well (kinds.stopForward h m)
@@ -312,7 +311,7 @@ module _ (n q : ℕ) (h : Row) (r : RowForm n h) (m : Message) (ok : MessageForm
           linked = λ l. absurd (omega arith);
           out = λ _. refl;
           taken = λ ne. absurd (ne refl);
-          flag = inl (down (λ x. omega arith));
+          flag = inl (down (λ x. omega arith) .0, refl);
         },
         refl,
         note-form 14 (m .to) (h .succ) 0 (omega arith) (omega arith) (ok .to) (r .linked (omega arith) .1) (omega arith) refl refl,
@@ -435,8 +434,8 @@ module _ (s : State) (f : Form s) (j : ℕ) (l : j < length (s .messages)) where
       (handle-sound (count s) (s .asked) (row s t) (row-at f t (rw e at (ok .to))) (message s j) ok (identifier s (row s t .pred)) (row s (message s j .a)))
 
 module _ (s : State) (f : Form s) where
-  ask-yes : (b : Bool) (k : ℕ) (r : Result) → (T b → Leaves r) → Leaves (require b k r)
-  ask-yes b k r g = tested Leaves b k r g (leaves-refused k)
+  ask-yes : (b : Bool) (k : ℕ) (r : Result) → (T b → Leaves r) → Leaves (require b (refused k) r)
+  ask-yes b k r g = tested Leaves b (refused k) r (leaves-refused k) g
 
   roomy : T (room s) → length (s .messages) < mostMessages
   unfolding room

@@ -7,7 +7,7 @@ use native.Mathlib.Omega.{arith}
 use lib.Dec.{T, leb, leb→le}
 use lib.ListN.{length, drop}
 use Rattle.clockwise.specs.Clockwise.{dist, within}
-use Rattle.lists.specs.Choice.{if_then_else_}
+use Rattle.lists.specs.Choice.{if_then_else_, require}
 use Rattle.lists.specs.Members.{All}
 use Rattle.lists.specs.Search.{first}
 use Rattle.lists.specs.Tests.{every, distinct, says-distinct}
@@ -16,7 +16,7 @@ use Rattle.protocol.specs.declared.Outcome.{Outcome}
 use Rattle.protocol.specs.declared.Outcome.the-variants.{Refused, Answered}
 use Rattle.protocol.specs.Record.{round, mostNodes, recordSize, State, words}
 use Rattle.protocol.specs.Fresh.{fresh}
-use Rattle.protocol.specs.Routing.{inRing, inside, covers, onward, route}
+use Rattle.protocol.specs.Routing.{inRing, responsible, covers, onward, route}
 use Rattle.protocol.specs.Kinds as kinds
 use Rattle.protocol.specs.Step as step
 use Rattle.protocol.specs.Step.{Result, refused, accepted}
@@ -24,17 +24,17 @@ use Rattle.protocol.specs.Calls.{Called, written, freshCall}
 use Rattle.layout.specs.Words.{drop-words}
 use Rattle.layout.specs.Form.{Form}
 use Rattle.atomicity.specs.Preserved.{Leaves, leaves-form, step-form, fresh-form}
-use Rattle.atomicity.specs.Demand3.{Call, Words, called}
+use Rattle.atomicity.specs.Demand3.{Call, ThreeWords, called}
 use Rattle.atomicity.specs.Record.{fresh-gives}
 use Rattle.atomicity.specs.Theorem.{call-is}
 
 -- The outcomes of a fresh call and then of calls on the record that it wrote.
 unfoldable pub outcomes : List ℕ → List Call → List Outcome
 outcomes w [] = []
-outcomes w (c ∷ calls) = called w c .outcome ∷ outcomes (called w c .words) calls
+outcomes w (c ∷ calls) = called w c .outcome ∷ outcomes (called w c .slice) calls
 
 abbrev pub lines : List ℕ → List ℕ → List Call → List Outcome
-lines slice ids calls = freshCall slice ids .outcome ∷ outcomes (freshCall slice ids .words) calls
+lines slice ids calls = freshCall slice ids .outcome ∷ outcomes (freshCall slice ids .slice) calls
 
 pub data Probe : Type 0 where
   -- whether v is in (a, b]
@@ -95,15 +95,15 @@ outcomesOf s [] = []
 outcomesOf s (c ∷ calls) = let r = step.step s (c .operation) (c .x) (c .y) in said r ∷ outcomesOf (left s r) calls
 
 module _ (tail : List ℕ) where
-  outcomes-are : (s : State) → Form s → (calls : List Call) → All Words calls → outcomes (words s ++ tail) calls ≡ outcomesOf s calls
+  outcomes-are : (s : State) → Form s → (calls : List Call) → All ThreeWords calls → outcomes (words s ++ tail) calls ≡ outcomesOf s calls
   unfolding outcomes outcomesOf written said left
   outcomes-are s f [] w = refl
   outcomes-are s f (c ∷ calls) w =
-      ap (λ z. z .outcome ∷ outcomes (z .words) calls) (call-is s tail c f)
+      ap (λ z. z .outcome ∷ outcomes (z .slice) calls) (call-is s tail c f)
       ∙ go (step.step s (c .operation) (c .x) (c .y)) (step-form s f (c .operation) (c .x) (c .y) (w .0 .y)) (λ s′ f′. outcomes-are s′ f′ calls (w .1))
     where
       go : (r : Result) → Leaves r → ((s′ : State) → Form s′ → outcomes (words s′ ++ tail) calls ≡ outcomesOf s′ calls)
-          → (written (words s ++ tail) r .outcome ∷ outcomes (written (words s ++ tail) r .words) calls) ≡ (said r ∷ outcomesOf (left s r) calls)
+          → (written (words s ++ tail) r .outcome ∷ outcomes (written (words s ++ tail) r .slice) calls) ≡ (said r ∷ outcomesOf (left s r) calls)
       go (refused k) l ih = ap (λ z. Refused k ∷ z) (ih s f)
       go (accepted a s′) l ih =
           ap (λ t. Answered a ∷ outcomes (words s′ ++ t) calls) (drop-words s tail (f .few) (f .short)) ∙ ap (λ z. Answered a ∷ z) (ih s′ (leaves-form a s′ l))
@@ -112,13 +112,13 @@ module _ (tail : List ℕ) where
 abbrev Computes : Probe → Type 0
 Computes (interval a b v is) = within round a b v ≡ is
 Computes (ring ids calls text) =
-    T (leb 1 (length ids)) × T (leb (length ids) mostNodes) × T (distinct ids) × All Words calls × (quiet ∷ outcomesOf (fresh ids) calls ≡ text)
+    T (leb 1 (length ids)) × T (leb (length ids) mostNodes) × T (distinct ids) × All ThreeWords calls × (quiet ∷ outcomesOf (fresh ids) calls ≡ text)
 
 -- A ring's lines are those of its fresh state.
 passes : (p : Probe) → Computes p → Passes p
 passes (interval a b v is) e = e
 passes (ring ids calls text) k = λ slice l.
-    ap (λ z. z .outcome ∷ outcomes (z .words) calls) (fresh-gives slice ids l (k .0) (k .1) (k .2))
+    ap (λ z. z .outcome ∷ outcomes (z .slice) calls) (fresh-gives slice ids l (k .0) (k .1) (k .2))
     ∙ ap (λ z. quiet ∷ z)
     (outcomes-are (drop recordSize slice) (fresh ids) (fresh-form ids (leb→le 1 (length ids) (k .0)) (leb→le (length ids) mostNodes (k .1)) (says-distinct ids .to (k .2))) calls (k .3))
     ∙ k .4
@@ -128,7 +128,7 @@ all-pass [] k = tt
 all-pass (p ∷ l) k = (passes p (k .0), all-pass l (k .1))
 
 computed : All Computes starred
-unfolding outcomesOf said left fresh step.step step.ask step.asking step.join step.leave step.onLink step.delivered step.deliver step.require step.conclude step.room if_then_else_ first within dist inRing inside covers onward route kinds.grown kinds.lookedUp kinds.lookup kinds.joined kinds.join kinds.joinRetry kinds.joinPoint kinds.newSucc kinds.newSuccAck kinds.joinDone kinds.leaveReq kinds.leaveRetry kinds.leaveGrant kinds.leavePoint kinds.updateSucc kinds.stopForward kinds.leaveDone kinds.handle distinct every
+unfolding outcomesOf said left fresh step.step step.ask step.asking step.join step.leave step.onLink step.delivered step.deliver require step.conclude step.room if_then_else_ first within dist inRing responsible covers onward route kinds.grown kinds.lookupRouted kinds.lookup kinds.joinRouted kinds.join kinds.joinRetry kinds.joinPoint kinds.newSucc kinds.newSuccAck kinds.joinDone kinds.leaveReq kinds.leaveRetry kinds.leaveGrant kinds.leavePoint kinds.updateSucc kinds.stopForward kinds.leaveDone kinds.handle distinct every
 computed = (
   refl,
   (

@@ -7,8 +7,8 @@ use Prim.Native.Nat.{ℕ, _≤_, _<_}
 use native.Mathlib.Omega.{arith}
 use lib.Dec.{T, leb, leb→le, le→leb}
 use lib.ListN.{length, drop, length-append, length-drop}
-use Rattle.lists.specs.Choice.{if_then_else_, choose, passes}
-use Rattle.lists.specs.Tests.{and-both, T-true, true-T, distinct, says-distinct}
+use Rattle.lists.specs.Choice.{require, tested, granted}
+use Rattle.lists.specs.Tests.{and-left, and-right, and-both, T-true, true-T, distinct, says-distinct}
 use Rattle.protocol.specs.declared.Answer.{Answer}
 use Rattle.protocol.specs.declared.Answer.the-variants.{Quiet}
 use Rattle.protocol.specs.declared.Outcome.{Outcome}
@@ -17,10 +17,10 @@ use Rattle.protocol.specs.Record.{round, mostNodes, recordSize, State, read, wo
 use Rattle.protocol.specs.WellFormed.{wellFormed}
 use Rattle.protocol.specs.Fresh.{fresh}
 use Rattle.protocol.specs.Step.{Result, refused, accepted, step}
-use Rattle.protocol.specs.Calls.{Called, long, written, turnedDown, stepCall, freshCall}
+use Rattle.protocol.specs.Calls.{Called, long, onRecord, written, turnedDown, stepCall, freshCall}
 use Rattle.layout.specs.Words.{words-read, drop-words, length-words}
 use Rattle.layout.specs.Form.{Form, tidy, form-of, well-formed-words}
-use Rattle.atomicity.specs.Preserved.{Leaves, leaves-form, leaves-refused, step-form, fresh-form}
+use Rattle.atomicity.specs.Preserved.{Leaves, leaves-form, leaves-accepted, step-form, fresh-form}
 
 -- What a call may do to the words: keep them all, or leave a well-formed record with the later words as they were.
 pub record Kept (w v : List ℕ) : Type 0 where
@@ -28,9 +28,9 @@ pub record Kept (w v : List ℕ) : Type 0 where
   pub later : drop recordSize v ≡ drop recordSize w
 
 abbrev pub Sound : List ℕ → Called → Type 0
-Sound w r = Kept w (r .words) × ((a : Answer) → r .outcome ≡ Answered a → wellFormed (r .words) ≡ true)
+Sound w r = Kept w (r .slice) × ((a : Answer) → r .outcome ≡ Answered a → wellFormed (r .slice) ≡ true)
 
-turned-sound : (w : List ℕ) (k : ℕ) → Sound w (turnedDown k w)
+turned-sound : (w : List ℕ) (k : ℕ) → Sound w (turnedDown w k)
 turned-sound w k = (record { size = refl; later = refl }, λ a e. absurd (no-answer e))
   where
     isRefused : Outcome → Type 0
@@ -54,35 +54,24 @@ written-sound w (accepted a s) l f =
 
 -- An accepted step leaves the record well formed.
 pub step-sound : (w : List ℕ) (operation x y : ℕ) → y < round → Sound w (stepCall w operation x y)
-unfolding stepCall long
+unfolding stepCall onRecord long
 step-sound w operation x y ly =
-    choose (Sound w) (leb recordSize (length w)) _ _
-    (λ t. choose (Sound w) (wellFormed w) _ _
-    (λ ok. written-sound w (step (read w) operation x y) (leb→le recordSize (length w) t) (step-form (read w) (form-of w ok) operation x y ly))
-    (λ _. turned-sound w 2))
-    (λ _. turned-sound w 1)
+    tested (Sound w) (leb recordSize (length w)) _ _ (turned-sound w 1)
+    (λ t. tested (Sound w) (wellFormed w) _ _ (turned-sound w 2)
+    (λ ok. written-sound w (step (read w) operation x y) (leb→le recordSize (length w) t) (step-form (read w) (form-of w ok) operation x y ly)))
 
 -- So does an accepted fresh.
 pub fresh-sound : (w ids : List ℕ) → Sound w (freshCall w ids)
 unfolding freshCall long
 fresh-sound w ids =
-    choose (Sound w) (leb recordSize (length w)) _ _
-    (λ t. go (leb→le recordSize (length w) t) (leb 1 (length ids)) (leb→le 1 (length ids)) (leb (length ids) mostNodes) (leb→le (length ids) mostNodes))
-    (λ _. turned-sound w 1)
-  where
-    founded : recordSize ≤ length w → 1 ≤ length ids → length ids ≤ mostNodes → Sound w (if distinct ids then written w (accepted Quiet (fresh ids)) else turnedDown 14 w)
-    founded l some few =
-        choose (Sound w) (distinct ids) _ _
-        (λ d. written-sound w (accepted Quiet (fresh ids)) l (leaves (fresh-form ids some few (says-distinct ids .to d)))) (λ _. turned-sound w 14)
-      where
-        leaves : Form (fresh ids) → Leaves (accepted Quiet (fresh ids))
-        leaves f = Rattle.atomicity.specs.Preserved.leaves-accepted Quiet (fresh ids) f
-
-    go : recordSize ≤ length w → (a : Bool) → (T a → 1 ≤ length ids) → (b : Bool) → (T b → length ids ≤ mostNodes)
-        → Sound w (if a && b then (if distinct ids then written w (accepted Quiet (fresh ids)) else turnedDown 14 w) else turnedDown 13 w)
-    go l true f true g = passes (Sound w) true _ _ tt (founded l (f tt) (g tt))
-    go l true f false g = choose (Sound w) false _ _ (λ t. absurd t) (λ _. turned-sound w 13)
-    go l false f b g = choose (Sound w) false _ _ (λ t. absurd t) (λ _. turned-sound w 13)
+    tested (Sound w) (leb recordSize (length w)) _ _ (turned-sound w 1)
+    (λ t. tested (Sound w) (leb 1 (length ids) && leb (length ids) mostNodes) _ _ (turned-sound w 13)
+    (λ n. tested (Sound w) (distinct ids) _ _ (turned-sound w 14)
+    (λ d. written-sound w (accepted Quiet (fresh ids)) (leb→le recordSize (length w) t)
+    (leaves-accepted Quiet (fresh ids) (fresh-form ids
+    (leb→le 1 (length ids) (and-left (leb 1 (length ids)) (leb (length ids) mostNodes) n))
+    (leb→le (length ids) mostNodes (and-right (leb 1 (length ids)) (leb (length ids) mostNodes) n))
+    (says-distinct ids .to d))))))
 
 -- On well-formed records words and state are inverse. (What is written is read: `read-words` of `layout`.)
 pub words-of-read : (w : List ℕ) → recordSize ≤ length w → wellFormed w ≡ true → words (read w) ++ drop recordSize w ≡ w
@@ -90,12 +79,12 @@ words-of-read w l ok = words-read w (tidy w (true-T _ ok) l)
 
 -- What a fresh call of a good list of identifiers gives.
 pub fresh-gives : (w ids : List ℕ) → recordSize ≤ length w → T (leb 1 (length ids)) → T (leb (length ids) mostNodes) → T (distinct ids)
-    → freshCall w ids ≡ record { outcome = Answered Quiet; words = words (fresh ids) ++ drop recordSize w }
+    → freshCall w ids ≡ record { outcome = Answered Quiet; slice = words (fresh ids) ++ drop recordSize w }
 unfolding freshCall long written
 fresh-gives w ids l some few differ =
-    passes (λ z. z ≡ r) _ _ _ (le→leb _ _ l)
-    (passes (λ z. z ≡ r) _ _ _ (and-both (leb 1 (length ids)) (leb (length ids) mostNodes) some few)
-    (passes (λ z. z ≡ r) _ _ _ differ refl))
+    granted (λ z. z ≡ r) _ _ _ (le→leb _ _ l)
+    (granted (λ z. z ≡ r) _ _ _ (and-both (leb 1 (length ids)) (leb (length ids) mostNodes) some few)
+    (granted (λ z. z ≡ r) _ _ _ differ refl))
   where
     r : Called
-    r = record { outcome = Answered Quiet; words = words (fresh ids) ++ drop recordSize w }
+    r = record { outcome = Answered Quiet; slice = words (fresh ids) ++ drop recordSize w }

@@ -12,7 +12,7 @@ use lib.Dec.{T, ltb, eqb, eqb→eq, lt→ltb, ltb→lt}
 use lib.ListN.{length, getD, set, take, drop, length-append, length-map, List·getD-map}
 use lib.Seq.{getD-set-same, getD-set-other, split-at, getD-take, length-take-le, take-at, drop-at, append-snoc}
 use borrow.Author.Tests.{eqb-true}
-use Rattle.lists.specs.Choice.{if_then_else_, choose}
+use Rattle.lists.specs.Choice.{if_then_else_, choose, granted, tested}
 use Rattle.lists.specs.Members.{Mem, mem-mid, all-at, getD-any, by-row}
 use Rattle.lists.specs.Search.{Found, Missed, search-ends}
 use Rattle.lists.specs.Tests.{and-left, and-right, and-both, →eqb, true-T, T-true}
@@ -28,7 +28,7 @@ use Rattle.atomicity.specs.Members.{mark, mark-head, mark-tail}
 use Rattle.atomicity.specs.Neighbours.{PredL}
 use Rattle.atomicity.specs.Invariant.{Hubs, Msg, erase, from, to, joinDone, Inv}
 use Rattle.atomicity.specs.OneStep.{Clear}
-use Rattle.atomicity.specs.Good.{rowOf, coreOf, hubs, kept-names, Numbers, Holds, Good, Fine, fine-refused, fine-accepted, fine-next, not-refused, granted, tested}
+use Rattle.atomicity.specs.Good.{rowOf, coreOf, hubs, kept-names, Numbers, Holds, Good, Fine, fine-refused, fine-accepted, fine-next, not-refused}
 use Rattle.atomicity.specs.Deliver.{deliver-fine}
 use Rattle.atomicity.specs.Commands.{ask-fine, join-fine, leave-fine}
 use Rattle.atomicity.specs.Preserved.{founder-name, length-founded}
@@ -165,9 +165,9 @@ module _ (id : ℕ → ℕ) (small : (h : ℕ) → id h < round) (c : ℕ) (inj 
   unfolding step.deliver
   deliver-any x y (inl k) = fine-both (s .asked) _ (delivered-fine x y k)
   deliver-any x y (inr k) =
-      tested (Ok (s .asked) true) _ _ _
-      (λ _. tested (Ok (s .asked) true) _ _ _ (λ t. absurd (omega (arith, ltb→lt (oldest s x y) (length (s .messages)) t, k .end))) (fine-refused id c members ks (s .asked) 9))
-      (fine-refused id c members ks (s .asked) 4)
+      tested (Ok (s .asked) true) _ _ _ (fine-refused id c members ks (s .asked) 4)
+      (λ _. tested (Ok (s .asked) true) _ _ _ (fine-refused id c members ks (s .asked) 9)
+      (λ t. absurd (omega (arith, ltb→lt (oldest s x y) (length (s .messages)) t, k .end))))
 
   -- an ask takes a ticket, the other commands do not
   counts : (b : Bool) (x y : Result) → Ok (s .asked + 1) true x → Ok (s .asked) true y → Ok (s .asked + (if b then 1 else 0)) true (if b then x else y)

@@ -9,7 +9,7 @@ use native.Mathlib.Omega.{arith}
 use lib.Dec.{T, leb, ltb, eqb, leb→le, le→leb, ltb→lt, eqb→eq, lt→ltb}
 use lib.ListN.{length, getD, drop, length-append, List·getD-eq-default}
 use Rattle.clockwise.specs.Laws.{In, within-in}
-use Rattle.lists.specs.Choice.{if_then_else_, choose, passes}
+use Rattle.lists.specs.Choice.{if_then_else_, require, granted}
 use Rattle.lists.specs.Members.{Mem, mem-at, place, All, all-mem, times, ind}
 use Rattle.lists.specs.Search.{Found as Located, Missed, search-ends}
 use Rattle.lists.specs.Tests.{and-left, and-right, and-both, true-T, T-true, →eqb, distinct, Distinct, says-distinct}
@@ -21,11 +21,11 @@ use Rattle.protocol.specs.declared.Outcome.the-variants.{Refused, Answered}
 use Rattle.protocol.specs.Record.{round, mostNodes, recordSize, State, count, row, message, noMessage, read, words}
 use Rattle.protocol.specs.WellFormed.{wellFormed}
 use Rattle.protocol.specs.Fresh.{fresh}
-use Rattle.protocol.specs.Routing.{inside, covers}
+use Rattle.protocol.specs.Routing.{responsible, covers}
 use Rattle.protocol.specs.Step.{Result, refused, step, deliver, onLink}
 use Rattle.protocol.specs.Step.{accepted as went}
-use Rattle.protocol.specs.Calls.{Called, long, written, turnedDown, stepCall, freshCall, holds}
-use Rattle.protocol.specs.Membership.{foundingMembers, afterOutcome, afterAnswer, node, ownerAmong, waiting, foundTicket, ticketOf, acceptedAsk}
+use Rattle.protocol.specs.Calls.{Called, long, onRecord, written, turnedDown, stepCall, freshCall}
+use Rattle.protocol.specs.Membership.{foundingMembers, afterOutcome, afterAnswer, node, ownerAmong, holds, waiting, foundTicket, ticketOf, acceptedAsk}
 use Rattle.layout.specs.Words.{read-words, drop-words}
 use Rattle.layout.specs.Form.{Form, well-formed-words, long-words}
 use Rattle.atomicity.specs.Members.{mark, owner-computed}
@@ -34,17 +34,17 @@ use Rattle.atomicity.specs.Invariant.{Msg, erase, Inv}
 use Rattle.atomicity.specs.Invariant.{lookup, join, joinRetry, joinPoint, newSucc, newSuccAck, joinDone}
 use Rattle.atomicity.specs.Invariant.{leaveReq, leaveRetry, leaveGrant, leavePoint, updateSucc, stopForward, leaveDone}
 use Rattle.atomicity.specs.Good.{rowOf, hubs, total, asks, Holds, Good, Names, Next, Fine, fine-next, not-refused}
-use Rattle.atomicity.specs.Preserved.{Leaves, leaves-form, step-form, fresh-form, inside-states}
+use Rattle.atomicity.specs.Preserved.{Leaves, leaves-form, step-form, fresh-form, responsible-states}
 use Rattle.atomicity.specs.Run.{question, step-fine, delivered-fine, fresh-good}
-use Rattle.atomicity.specs.Demand3.{Call, Word, Words, called, Event, history, recordAfter, membersAfter, accepted, foundTickets, Claims, Demand3}
+use Rattle.atomicity.specs.Demand3.{Call, Word, ThreeWords, called, Event, history, recordAfter, membersAfter, questionsAccepted, foundTickets, Claims, Demand3}
 
 -- On the words of a well-formed state a call is the step of that state.
 pub call-is : (s : State) (tail : List ℕ) (c : Call) → Form s
     → called (words s ++ tail) c ≡ written (words s ++ tail) (step s (c .operation) (c .x) (c .y))
-unfolding stepCall long
+unfolding stepCall onRecord long
 call-is s tail c f =
-    passes (λ z. z ≡ written w r) _ _ _ (le→leb _ _ (long-words s tail f))
-    (passes (λ z. z ≡ written w r) _ _ _ (well-formed-words s tail f)
+    granted (λ z. z ≡ written w r) _ _ _ (le→leb _ _ (long-words s tail f))
+    (granted (λ z. z ≡ written w r) _ _ _ (well-formed-words s tail f)
     (ap (λ z. written w (step z (c .operation) (c .x) (c .y))) (read-words s tail (f .few))))
   where
     w : List ℕ
@@ -115,7 +115,7 @@ module _ (ids tail : List ℕ) (small : (h : ℕ) → getD ids h 0 < round) (inj
     is : w ≡ words state ++ tail
     tickets : List ℕ
     good : Good id c state (membersAfter members events) tickets
-    count : state .asked ≡ q + accepted events
+    count : state .asked ≡ q + questionsAccepted events
     each : (k : ℕ) → times tickets k ≡ times (foundTickets events) k + times ks k
     all : length tickets ≡ length (foundTickets events) + length ks
     named : Named members events
@@ -144,7 +144,7 @@ module _ (ids tail : List ℕ) (small : (h : ℕ) → getD ids h 0 < round) (inj
       → ((hub number ticket hops : ℕ) → o ≡ Answered (Found hub number ticket hops) → ownerAmong ids members number ≡ node hub)
       → q′ ≡ q + acceptedAsk (k .operation) o → Reached (afterOutcome members o) (ticketOf o ++ ks) q′ events w
       → Reached members ks q (record { call = k; outcome = o } ∷ events) w
-  unfolding membersAfter accepted foundTickets
+  unfolding membersAfter questionsAccepted foundTickets
   more members ks q q′ k o events w named e r = record {
     state = r .state;
     form = r .form;
@@ -163,11 +163,11 @@ module _ (ids tail : List ℕ) (small : (h : ℕ) → getD ids h 0 < round) (inj
       → Reached members ks (s .asked) (history (words s ++ tail) (k ∷ calls)) (recordAfter (words s ++ tail) (k ∷ calls))
   unfolding history recordAfter written afterOutcome ticketOf acceptedAsk
   goes s members ks f G k ly calls ih =
-      subst (λ z. Reached members ks (s .asked) (record { call = k; outcome = z .outcome } ∷ history (z .words) calls) (recordAfter (z .words) calls)) (sym (call-is s tail k f))
+      subst (λ z. Reached members ks (s .asked) (record { call = k; outcome = z .outcome } ∷ history (z .slice) calls) (recordAfter (z .slice) calls)) (sym (call-is s tail k f))
       (go (step s (k .operation) (k .x) (k .y)) (step-fine id small c inj s members ks G (k .operation) (k .x) (k .y) ly) (step-form s f (k .operation) (k .x) (k .y) ly))
     where
       go : (r : Result) → Fine id c members ks (s .asked + question (k .operation)) true r → Leaves r
-          → Reached members ks (s .asked) (record { call = k; outcome = written (words s ++ tail) r .outcome } ∷ history (written (words s ++ tail) r .words) calls) (recordAfter (written (words s ++ tail) r .words) calls)
+          → Reached members ks (s .asked) (record { call = k; outcome = written (words s ++ tail) r .outcome } ∷ history (written (words s ++ tail) r .slice) calls) (recordAfter (written (words s ++ tail) r .slice) calls)
       go (refused z) fine leaves =
           more members ks (s .asked) (s .asked) k (Refused z) _ _ (λ hub number ticket hops e. absurd (refused-answered e)) (omega arith) (ih s members ks f G)
       go (went a s′) fine leaves =
@@ -176,9 +176,9 @@ module _ (ids tail : List ℕ) (small : (h : ℕ) → getD ids h 0 < round) (inj
           (more members ks (s .asked) (s′ .asked) k (Answered a) _ _ (owner-named G a (n .named)) (n .asked) (ih s′ (afterAnswer members a) (foundTicket a ++ ks) (leaves-form a s′ leaves) (n .good)))
 
   -- every list of calls
-  runs : (s : State) (members ks : List ℕ) → Form s → Good id c s members ks → (calls : List Call) → All Words calls
+  runs : (s : State) (members ks : List ℕ) → Form s → Good id c s members ks → (calls : List Call) → All ThreeWords calls
       → Reached members ks (s .asked) (history (words s ++ tail) calls) (recordAfter (words s ++ tail) calls)
-  unfolding history recordAfter membersAfter accepted foundTickets
+  unfolding history recordAfter membersAfter questionsAccepted foundTickets
   runs s members ks f G [] w = record {
     state = s;
     form = f;
@@ -211,12 +211,12 @@ module _ (ids tail : List ℕ) (small : (h : ℕ) → getD ids h 0 < round) (inj
         t = true-T _ e
 
         w : (2 ≤ row s h .state) × (row s h .state ≤ 3)
-        w = inside-states (row s h) (and-left (inside (row s h)) _ t)
+        w = responsible-states (row s h) (and-left (responsible (row s h)) _ t)
 
         at : In round (id (row s h .pred)) (id h) v
         at = subst (λ z. In round z (id h) v) (H .names (row s h .pred))
             (subst (λ z. In round (row s (row s h .pred) .identifier) z v) (H .names h)
-            (within-in round _ (row s h .identifier) v (and-right (inside (row s h)) _ t)))
+            (within-in round _ (row s h .identifier) v (and-right (responsible (row s h)) _ t)))
 
     single : (v h k : ℕ) → Word v → holds s h v ≡ true → holds s k v ≡ true → h ≡ k
     single v h k lv p q =
@@ -304,40 +304,38 @@ module _ (ids tail : List ℕ) (small : (h : ℕ) → getD ids h 0 < round) (inj
       held h v p = subst (λ z. holds z h v ≡ true) same p
 
 -- What a fresh call has accepted, and what it wrote.
-record Founded (slice ids w : List ℕ) : Type 0 where
+record Founded (slice ids : List ℕ) : Type 0 where
   some : 1 ≤ length ids
   few : length ids ≤ mostNodes
   differ : T (distinct ids)
-  is : w ≡ words (fresh ids) ++ drop recordSize slice
+  is : freshCall slice ids .slice ≡ words (fresh ids) ++ drop recordSize slice
 
-fresh-accepted : (slice ids w : List ℕ) → freshCall slice ids ≡ record { outcome = Answered Quiet; words = w } → Founded slice ids w
-unfolding freshCall if_then_else_ written
-fresh-accepted slice ids w =
-    go (long slice) (leb 1 (length ids)) (leb→le 1 (length ids)) (leb (length ids) mostNodes) (leb→le (length ids) mostNodes) (distinct ids) (λ t. t)
+fresh-accepted : (slice ids : List ℕ) → freshCall slice ids .outcome ≡ Answered Quiet → Founded slice ids
+unfolding freshCall require if_then_else_ written
+fresh-accepted slice ids =
+    go (long slice) (leb 1 (length ids)) (leb→le 1 (length ids)) (leb (length ids) mostNodes) (leb→le (length ids) mostNodes) (distinct ids) (λ t. t) refl
   where
-    no-answer : {k : ℕ} {l : List ℕ} → turnedDown k l ≡ record { outcome = Answered Quiet; words = w } → ⊥
-    no-answer e = refused-answered (ap (λ z. z .outcome) e)
+    given : Bool → Bool → Bool → Bool → Called
+    given a b c d =
+        require a (turnedDown slice 1) (require (b && c) (turnedDown slice 13) (require d (turnedDown slice 14) (written slice (went Quiet (fresh ids)))))
 
     go : (a b : Bool) → (T b → 1 ≤ length ids) → (c : Bool) → (T c → length ids ≤ mostNodes) → (d : Bool) → (T d → T (distinct ids))
-        → (if a then (if b && c then (if d then written slice (went Quiet (fresh ids)) else turnedDown 14 slice) else turnedDown 13 slice) else turnedDown 1 slice)
-        ≡ record { outcome = Answered Quiet; words = w }
-        → Founded slice ids w
-    go true true f true g true h e = record { some = f tt; few = g tt; differ = h tt; is = sym (ap (λ z. z .words) e) }
-    go true true f true g false h e = absurd (no-answer e)
-    go true true f false g d h e = absurd (no-answer e)
-    go true false f c g d h e = absurd (no-answer e)
-    go false b f c g d h e = absurd (no-answer e)
+        → freshCall slice ids ≡ given a b c d → given a b c d .outcome ≡ Answered Quiet → Founded slice ids
+    go true true f true g true h e o = record { some = f tt; few = g tt; differ = h tt; is = ap (λ z. z .slice) e }
+    go true true f true g false h e o = absurd (refused-answered o)
+    go true true f false g d h e o = absurd (refused-answered o)
+    go true false f c g d h e o = absurd (refused-answered o)
+    go false b f c g d h e o = absurd (refused-answered o)
 
 pub demand-3 : Demand3
 unfolding Demand3 fresh
-demand-3 slice ids calls w small words32 e =
+demand-3 slice ids calls small words32 e =
     subst (λ z. Claims ids (history z calls) (recordAfter z calls)) (sym (k .is))
     (claimed ids tail names apart (history (words (fresh ids) ++ tail) calls) (recordAfter (words (fresh ids) ++ tail) calls)
-    (subst (λ z. Reached ids tail names apart (foundingMembers ids) [] z (history (words (fresh ids) ++ tail) calls) (recordAfter (words (fresh ids) ++ tail) calls)) fresh-asked
-    (runs ids tail names apart (fresh ids) (foundingMembers ids) [] (fresh-form ids (k .some) (k .few) differ) (fresh-good ids (k .some)) calls words32)))
+    (runs ids tail names apart (fresh ids) (foundingMembers ids) [] (fresh-form ids (k .some) (k .few) differ) (fresh-good ids (k .some)) calls words32))
   where
-    k : Founded slice ids w
-    k = fresh-accepted slice ids w e
+    k : Founded slice ids
+    k = fresh-accepted slice ids e
 
     tail : List ℕ
     tail = drop recordSize slice
@@ -350,6 +348,3 @@ demand-3 slice ids calls w small words32 e =
 
     apart : (a b : ℕ) → a < length ids → b < length ids → getD ids a 0 ≡ getD ids b 0 → a ≡ b
     apart = distinct-apart ids differ
-
-    fresh-asked : fresh ids .asked ≡ 0
-    fresh-asked = refl

@@ -14,7 +14,7 @@ use Rattle.lists.specs.Members.{Mem, mem-at}
 use Rattle.lists.specs.Tests.{and-left, and-right, and-both, Says, says-and, says-if, says-le, says-lt, says-eq, says-as, every, says-every, distinct, Distinct, says-distinct, →eqb}
 use Rattle.protocol.specs.declared.Row.{Row}
 use Rattle.protocol.specs.declared.Message.{Message}
-use Rattle.protocol.specs.Record.{form, mostNodes, mostMessages, rowSize, messageSize, recordSize, none, State, count, countIn, messagesIn, row, read, words, outside, rowFrom, messageFrom, rowStart, messageStart}
+use Rattle.protocol.specs.Record.{form, mostNodes, mostMessages, rowSize, messageSize, recordSize, unusedRowWords, unusedMessageWords, none, State, count, countIn, messagesIn, row, read, words, outside, rowFrom, messageFrom, rowStart, messageStart}
 use Rattle.protocol.specs.WellFormed.{pointersOk, lockOk, flagOk, rowOk, limitA, limitB, limitHops, messageOk, identifiers, formed, headerOk, unusedRows, unusedMessages, unusedOk, wellFormed}
 use Rattle.layout.specs.Words.{Tidy, read-words, words-read, count-read, messages-read, form-read, unused-rows-read, unused-messages-read, length-words}
 
@@ -209,8 +209,8 @@ well-formed-words s t f = says-well-formed (words s ++ t) .fro (
   (
     (((form-read s t, rw (count-read s t) (f .some)), rw (count-read s t) (f .few)), rw (messages-read s t) (f .short)),
     (
-      rw (unused-rows-read s t (f .few) (f .short)) (padding (rowSize * mostNodes - rowSize * count s)),
-      rw (unused-messages-read s t (f .few) (f .short)) (padding (messageSize * mostMessages - messageSize * length (s .messages))),
+      rw (unused-rows-read s t (f .few) (f .short)) (padding (unusedRowWords (count s))),
+      rw (unused-messages-read s t (f .few) (f .short)) (padding (unusedMessageWords (length (s .messages)))),
     ),
   ),
   rw (read-words s t (f .few)) ((f .differ, f .rows), f .messages),

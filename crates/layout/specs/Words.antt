@@ -12,7 +12,7 @@ use Rattle.lists.specs.Members.{Mem, mem-at}
 use Rattle.lists.specs.Blocks.{table, length-table, table-of, flat, flat-append, flat-split, length-flat, length-front}
 use Rattle.protocol.specs.declared.Row.{Row}
 use Rattle.protocol.specs.declared.Message.{Message}
-use Rattle.protocol.specs.Record.{form, mostNodes, mostMessages, rowSize, messageSize, rowStart, messageStart, recordSize, State, count, countIn, messagesIn, askedIn, rowWords, messageWords, words, rowFrom, messageFrom, read, outside, noMessage}
+use Rattle.protocol.specs.Record.{form, mostNodes, mostMessages, rowSize, messageSize, rowStart, messageStart, recordSize, unusedRowWords, unusedMessageWords, State, count, countIn, messagesIn, askedIn, rowWords, messageWords, words, rowFrom, messageFrom, read, outside, noMessage}
 use Rattle.protocol.specs.WellFormed.{unusedRows, unusedMessages}
 
 pub row-size : (h : Row) → length (rowWords h) ≡ rowSize
@@ -26,10 +26,10 @@ abbrev pub header : State → List ℕ
 header s = form ∷ count s ∷ length (s .messages) ∷ s .asked ∷ []
 
 abbrev pub rowPadding : State → List ℕ
-rowPadding s = replicate (rowSize * mostNodes - rowSize * count s) 0
+rowPadding s = replicate (unusedRowWords (count s)) 0
 
 abbrev pub messagePadding : State → List ℕ
-messagePadding s = replicate (messageSize * mostMessages - messageSize * length (s .messages)) 0
+messagePadding s = replicate (unusedMessageWords (length (s .messages))) 0
 
 -- The words before the messages.
 pub front : State → List ℕ
@@ -129,21 +129,21 @@ module _ (s : State) (t : List ℕ) (hn : count s ≤ mostNodes) (hm : length (s
   pub unused-rows-read : unusedRows (words s ++ t) ≡ rowPadding s
   unfolding words
   unused-rows-read =
-      ap (λ w. take (rowSize * mostNodes - rowSize * count s) (drop (rowStart (count s)) w)) e
+      ap (λ w. take (unusedRowWords (count s)) (drop (rowStart (count s)) w)) e
       ∙ part-at (header s ++ flat rowWords (s .rows)) (rowPadding s) (flat messageWords (s .messages) ++ (messagePadding s ++ t)) (rowStart (count s))
-      (rowSize * mostNodes - rowSize * count s)
-      (omega (arith, length-flat rowWords rowSize row-size (s .rows))) (length-replicate (rowSize * mostNodes - rowSize * count s) 0)
+      (unusedRowWords (count s))
+      (omega (arith, length-flat rowWords rowSize row-size (s .rows))) (length-replicate (unusedRowWords (count s)) 0)
     where
       e : words s ++ t ≡ (header s ++ flat rowWords (s .rows)) ++ (rowPadding s ++ (flat messageWords (s .messages) ++ (messagePadding s ++ t)))
       e = simp append-assoc
 
   pub unused-messages-read : unusedMessages (words s ++ t) ≡ messagePadding s
   unused-messages-read =
-      ap (λ z. take (messageSize * mostMessages - messageSize * z) (drop (messageStart z) (words s ++ t))) (messages-read s t)
-      ∙ ap (λ w. take (messageSize * mostMessages - messageSize * length (s .messages)) (drop (messageStart (length (s .messages))) w)) e
+      ap (λ z. take (unusedMessageWords z) (drop (messageStart z) (words s ++ t))) (messages-read s t)
+      ∙ ap (λ w. take (unusedMessageWords (length (s .messages))) (drop (messageStart (length (s .messages))) w)) e
       ∙ part-at (front s ++ flat messageWords (s .messages)) (messagePadding s) t (messageStart (length (s .messages)))
-      (messageSize * mostMessages - messageSize * length (s .messages))
-      (messages-length s (s .messages) hn) (length-replicate (messageSize * mostMessages - messageSize * length (s .messages)) 0)
+      (unusedMessageWords (length (s .messages)))
+      (messages-length s (s .messages) hn) (length-replicate (unusedMessageWords (length (s .messages))) 0)
     where
       e : words s ++ t ≡ (front s ++ flat messageWords (s .messages)) ++ (messagePadding s ++ t)
       e = words-split s t ∙ sym (append-assoc (front s) (flat messageWords (s .messages)) (messagePadding s ++ t))
@@ -195,14 +195,14 @@ cut w a k b e = sym (take-append-drop k (drop a w)) ∙ ap (λ l. take k (drop a
 
 body : (w : List ℕ) (n m : ℕ) → n ≤ mostNodes → m ≤ mostMessages
     → drop 4 w
-    ≡ (take (rowSize * n) (drop 4 w) ++ (take (rowSize * mostNodes - rowSize * n) (drop (rowStart n) w)
-    ++ (take (messageSize * m) (drop (messageStart 0) w) ++ take (messageSize * mostMessages - messageSize * m) (drop (messageStart m) w))))
+    ≡ (take (rowSize * n) (drop 4 w) ++ (take (unusedRowWords n) (drop (rowStart n) w)
+    ++ (take (messageSize * m) (drop (messageStart 0) w) ++ take (unusedMessageWords m) (drop (messageStart m) w))))
     ++ drop recordSize w
 body w n m hn hm =
     cut w 4 (rowSize * n) (rowStart n) refl
-    ∙ ap (λ l. take (rowSize * n) (drop 4 w) ++ l) (cut w (rowStart n) (rowSize * mostNodes - rowSize * n) (messageStart 0) (omega arith)
-    ∙ ap (λ l. take (rowSize * mostNodes - rowSize * n) (drop (rowStart n) w) ++ l) (cut w (messageStart 0) (messageSize * m) (messageStart m) refl
-    ∙ ap (λ l. take (messageSize * m) (drop (messageStart 0) w) ++ l) (cut w (messageStart m) (messageSize * mostMessages - messageSize * m) recordSize (omega arith))))
+    ∙ ap (λ l. take (rowSize * n) (drop 4 w) ++ l) (cut w (rowStart n) (unusedRowWords n) (messageStart 0) (omega arith)
+    ∙ ap (λ l. take (unusedRowWords n) (drop (rowStart n) w) ++ l) (cut w (messageStart 0) (messageSize * m) (messageStart m) refl
+    ∙ ap (λ l. take (messageSize * m) (drop (messageStart 0) w) ++ l) (cut w (messageStart m) (unusedMessageWords m) recordSize (omega arith))))
     ∙ simp append-assoc
 
 -- What is read is written: a tidy record is the words of the state it stands for, and what is behind them.
@@ -214,8 +214,8 @@ words-read w t =
     let long = t .long in
     let rows = flat-read rowWords rowSize w 4 (λ i. rowFrom w (rowStart i)) (λ i l. row-part w (rowStart i) l) n (omega (arith, t .nodes)) in
     let cells = flat-read messageWords messageSize w (messageStart 0) (λ j. messageFrom w (messageStart j)) (λ j l. message-part w (messageStart j) l) m (omega (arith, t .waiting)) in
-    let rest = zeros (unusedRows w) (rowSize * mostNodes - rowSize * n) (simp (length-take, length-drop) (omega (arith, t .nodes))) (t .rows) in
-    let tail = zeros (unusedMessages w) (messageSize * mostMessages - messageSize * m) (simp (length-take, length-drop) (omega (arith, t .waiting))) (t .messages) in
+    let rest = zeros (unusedRows w) (unusedRowWords n) (simp (length-take, length-drop) (omega (arith, t .nodes))) (t .rows) in
+    let tail = zeros (unusedMessages w) (unusedMessageWords m) (simp (length-take, length-drop) (omega (arith, t .waiting))) (t .messages) in
     sym (one w 0 (omega arith)
     ∙ rw (length-table, length-table, rows, cells, ← rest, ← tail, next w 0 1 (omega arith), next w 0 2 (omega arith), next w 0 3 (omega arith))
     (rw (t .version) (ap (λ l. form ∷ n ∷ m ∷ askedIn w ∷ l) (body w n m (t .nodes) (t .waiting)))))

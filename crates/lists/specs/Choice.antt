@@ -7,6 +7,10 @@ unfoldable pub if_then_else_ : {A : Type 0} → Bool → A → A → A
 if true then x else y = x
 if false then x else y = y
 
+-- A question: where the answer is no, what stands for the refusal.
+unfoldable pub require : {A : Type 0} → Bool → A → A → A
+require b no-result rest = if b then rest else no-result
+
 -- What holds of a choice: P is a property of the value chosen.
 module _ {A : Type 0} (P : A → Type 0) where
   pub choose : (b : Bool) (x y : A) → (T b → P x) → (T (not b) → P y) → P (if b then x else y)
@@ -24,3 +28,12 @@ module _ {A : Type 0} (P : A → Type 0) where
   unfolding if_then_else_
   change true x y x′ y′ f g p = f p
   change false x y x′ y′ f g p = g p
+
+  -- what holds of a question's result: the answer may be no, or is yes
+  pub tested : (b : Bool) (x y : A) → P x → (T b → P y) → P (require b x y)
+  unfolding require
+  tested b x y p f = choose b y x f (λ _. p)
+
+  pub granted : (b : Bool) (x y : A) → T b → P y → P (require b x y)
+  unfolding require
+  granted b x y t p = passes b y x t p

@@ -1,4 +1,4 @@
--- Document 01's numbers and values for each case of an answer, an outcome and the other calls' answers; and the tally.
+-- Document 01, 'Answers', and the numbers that calls return: its number and values for each case of an enum. And the tally.
 use mathlib.Core.List.{List, [], _∷_}
 use Prim.Native.Nat.{ℕ, _+_}
 use lib.Dec.{ltb, eqb}
@@ -8,6 +8,10 @@ use Rattle.protocol.specs.declared.Answer.{Answer}
 use Rattle.protocol.specs.declared.Answer.the-variants.{Quiet, Found, Entered, Gone, JoinTurnedAway, LeaveTurnedAway, Joined, Left}
 use Rattle.protocol.specs.declared.Outcome.{Outcome}
 use Rattle.protocol.specs.declared.Outcome.the-variants.{Refused, Answered}
+use Rattle.protocol.specs.declared.Ownership.{Ownership}
+use Rattle.protocol.specs.declared.Ownership.the-variants.{Refused as OwnerRefused, HeldBy}
+use Rattle.protocol.specs.declared.Roll.{Roll}
+use Rattle.protocol.specs.declared.Roll.the-variants.{Refused as RollRefused, Length}
 use Rattle.protocol.specs.declared.Tally.{Tally}
 
 -- 'Answers: kind, hub, number, ticket, hops. .. Unnamed fields are 0.'
@@ -21,10 +25,33 @@ answerWords (LeaveTurnedAway hub) = 5 ∷ hub ∷ 0 ∷ 0 ∷ 0 ∷ []
 answerWords (Joined hub) = 6 ∷ hub ∷ 0 ∷ 0 ∷ 0 ∷ []
 answerWords (Left hub) = 7 ∷ hub ∷ 0 ∷ 0 ∷ 0 ∷ []
 
--- 'the number returned is the refusal, 0 for none'
+unfoldable pub kindOf : Answer → ℕ
+kindOf a = getD (answerWords a) 0 0
+
+-- 'the number returned is the refusal, 0 for none', and the words that go with it: a step's, the owner query's, a roll call's length
 unfoldable pub refusal : Outcome → ℕ
 refusal (Refused k) = k
 refusal (Answered a) = 0
+
+unfoldable pub outcomeWords : Outcome → List ℕ
+outcomeWords (Refused k) = []
+outcomeWords (Answered a) = answerWords a
+
+unfoldable pub ownerRefusal : Ownership → ℕ
+ownerRefusal (OwnerRefused k) = k
+ownerRefusal (HeldBy hub) = 0
+
+unfoldable pub ownerWords : Ownership → List ℕ
+ownerWords (OwnerRefused k) = []
+ownerWords (HeldBy hub) = hub ∷ []
+
+unfoldable pub rollRefusal : Roll → ℕ
+rollRefusal (RollRefused k) = k
+rollRefusal (Length n) = 0
+
+unfoldable pub rollWords : Roll → List ℕ
+rollWords (RollRefused k) = []
+rollWords (Length n) = n ∷ []
 
 -- The tally: 'nine counts (kinds 0 to 7, refused)', one raised by each step; 'a count at 18446744073709551615 stays'.
 unfoldable pub raised : ℕ → ℕ
@@ -33,7 +60,7 @@ raised n = if ltb n 18446744073709551615 then n + 1 else n
 -- Which count: that of the answer's kind, and 8 for a refusal.
 unfoldable pub countOf : Outcome → ℕ
 countOf (Refused k) = 8
-countOf (Answered a) = getD (answerWords a) 0 0
+countOf (Answered a) = kindOf a
 
 unfoldable pub raisedAt : ℕ → Tally → Tally
 raisedAt k t = record {

@@ -1,115 +1,110 @@
 -- Document 01, 'Questions before a call, in order' and 'Reading the ring': what each call gives, for every list of words.
--- 'The number is returned, and no word of record or output changes.'
-use mathlib.Core.Bool.{Bool, not, _&&_}
+-- 'The first no decides. The number is returned, and no word of record or output changes.'
+use mathlib.Core.Bool.{Bool, _&&_}
 use mathlib.Core.List.{List, [], _∷_, _++_}
 use Prim.Native.Nat.{ℕ, zero, suc}
 use lib.Dec.{leb, ltb, eqb}
 use lib.ListN.{length, take, drop}
-use Rattle.lists.specs.Choice.{if_then_else_}
+use Rattle.lists.specs.Choice.{if_then_else_, require}
 use Rattle.lists.specs.Search.{first}
 use Rattle.lists.specs.Tests.{distinct}
 use Rattle.protocol.specs.declared.Answer.the-variants.{Quiet}
 use Rattle.protocol.specs.declared.Outcome.{Outcome}
 use Rattle.protocol.specs.declared.Outcome.the-variants.{Refused, Answered}
 use Rattle.protocol.specs.declared.Ownership.{Ownership}
-use Rattle.protocol.specs.declared.Ownership.the-variants.{Unheld, HeldBy}
+use Rattle.protocol.specs.declared.Ownership.the-variants.{Refused as OwnerRefused, HeldBy}
 use Rattle.protocol.specs.declared.Roll.{Roll}
-use Rattle.protocol.specs.declared.Roll.the-variants.{NoRoll, Length}
-use Rattle.protocol.specs.Record.{mostNodes, rowSize, rowStart, recordSize, none, State, count, countIn, row, identifier, read, words}
+use Rattle.protocol.specs.declared.Roll.the-variants.{Refused as RollRefused, Length}
+use Rattle.protocol.specs.Record.{mostNodes, rowSize, rowStart, recordSize, none, State, count, countIn, row, read, words}
 use Rattle.protocol.specs.WellFormed.{wellFormed}
 use Rattle.protocol.specs.Fresh.{fresh}
-use Rattle.protocol.specs.Routing.{inRing, inside, covers}
+use Rattle.protocol.specs.Routing.{inRing}
 use Rattle.protocol.specs.Step.{Result, refused, accepted, step}
+use Rattle.protocol.specs.Membership.{holds}
 
--- What a call leaves: its outcome, and the lent words.
-pub record Called : Type 0 where
-  pub outcome : Outcome
-  pub words : List ℕ
-
-abbrev pub turnedDown : ℕ → List ℕ → Called
-turnedDown k w = record { outcome = Refused k; words = w }
-
--- 'later ones are never read or written'
-unfoldable pub written : List ℕ → Result → Called
-written w (refused k) = turnedDown k w
-written w (accepted a s) = record { outcome = Answered a; words = words s ++ drop recordSize w }
-
--- 'are there 1,988 words? 1. .. is the record well formed? 2.'
+-- 'are there 1,988 words? 1.'
 unfoldable pub long : List ℕ → Bool
 long w = leb recordSize (length w)
 
+-- Every call but fresh: questions 1 and 2. `no-result k` is the refusal with number k.
+unfoldable pub onRecord : {A : Type 0} → List ℕ → (ℕ → A) → A → A
+onRecord w no-result rest = require (long w) (no-result 1) (require (wellFormed w) (no-result 2) rest)
+
+-- What a step or a fresh call leaves: its outcome, and the lent slice.
+pub record Called : Type 0 where
+  pub outcome : Outcome
+  pub slice : List ℕ
+
+abbrev pub turnedDown : List ℕ → ℕ → Called
+turnedDown w k = record { outcome = Refused k; slice = w }
+
+-- 'later ones are never read or written'
+unfoldable pub written : List ℕ → Result → Called
+written w (refused k) = turnedDown w k
+written w (accepted a s) = record { outcome = Answered a; slice = words s ++ drop recordSize w }
+
 unfoldable pub stepCall : List ℕ → ℕ → ℕ → ℕ → Called
-stepCall w operation x y =
-    if long w
-    then (if wellFormed w then written w (step (read w) operation x y) else turnedDown 2 w)
-    else turnedDown 1 w
+stepCall w operation x y = onRecord w (turnedDown w) (written w (step (read w) operation x y))
 
 -- Fresh: '1 to 64 identifiers? 13. All different? 14.' It answers quiet.
 unfoldable pub freshCall : List ℕ → List ℕ → Called
 freshCall w ids =
-    if long w
-    then (if leb 1 (length ids) && leb (length ids) mostNodes
-    then (if distinct ids then written w (accepted Quiet (fresh ids)) else turnedDown 14 w)
-    else turnedDown 13 w)
-    else turnedDown 1 w
+    require (long w) (turnedDown w 1)
+    (require (leb 1 (length ids) && leb (length ids) mostNodes) (turnedDown w 13)
+    (require (distinct ids) (turnedDown w 14)
+    (written w (accepted Quiet (fresh ids)))))
 
--- 'A hub holds v when its state is 2 or 3 and v is in (pred, its identifier].'
-unfoldable pub holds : State → ℕ → ℕ → Bool
-holds s h v = inside (row s h) && covers (identifier s (row s h .pred)) (row s h) v
-
--- 'does some hub hold the number? 15 (the lowest hub number if several).'
+-- Owner query: 'does some hub hold the number? 15 (the lowest hub number if several).'
 abbrev pub lowestHolder : State → ℕ → ℕ
-lowestHolder s v = first (λ h. holds s h v) (count s)
+lowestHolder s v = first (λ hub. holds s hub v) (count s)
 
 unfoldable pub ownerCall : List ℕ → ℕ → Ownership
 ownerCall w v =
-    if long w
-    then (if wellFormed w
-    then (if ltb (lowestHolder (read w) v) (countIn w) then HeldBy (lowestHolder (read w) v) else Unheld 15)
-    else Unheld 2)
-    else Unheld 1
+    onRecord w OwnerRefused
+    (require (ltb (lowestHolder (read w) v) (countIn w)) (OwnerRefused 15)
+    (HeldBy (lowestHolder (read w) v)))
 
 -- 'The hub row is handed out as the seven words inside the caller's record'; 'on a no to 1, 2 or hub below n it hands out an empty part'.
 unfoldable pub rowCall : List ℕ → ℕ → List ℕ
-rowCall w h = if long w && wellFormed w && ltb h (countIn w) then take rowSize (drop (rowStart h) w) else []
+rowCall w hub = onRecord w (λ k. []) (require (ltb hub (countIn w)) [] (take rowSize (drop (rowStart hub) w)))
 
--- 'A roll call from a hub is that hub followed by the roll of its successor, until the start returns', of at most so many hubs.
+-- The hubs passed by following succ, where that comes back to its start.
 pub data Traversal : Type 0 where
   lost : Traversal
   closed : List ℕ → Traversal
 
 abbrev pub followedBy : ℕ → Traversal → Traversal
-followedBy h lost = lost
-followedBy h (closed l) = closed (h ∷ l)
+followedBy hub lost = lost
+followedBy hub (closed l) = closed (hub ∷ l)
 
+-- 'A roll call from a hub is that hub followed by the roll of its successor, until the start returns', of at most so many hubs.
 -- 'Does following succ come back to the start after at most n hubs (a succ of none is a no)?'
 unfoldable pub roll : State → ℕ → ℕ → ℕ → Traversal
-roll s start zero h = lost
-roll s start (suc left) h =
-    if eqb (row s h .succ) start then closed (h ∷ [])
-    else if eqb (row s h .succ) none then lost
-    else followedBy h (roll s start left (row s h .succ))
+roll s start zero hub = lost
+roll s start (suc left) hub =
+    if eqb (row s hub .succ) start then closed (hub ∷ [])
+    else if eqb (row s hub .succ) none then lost
+    else followedBy hub (roll s start left (row s hub .succ))
 
+-- What a roll call leaves: its outcome, and the lent output.
 pub record Rolled : Type 0 where
   pub outcome : Roll
   pub output : List ℕ
 
-abbrev pub unrolled : ℕ → List ℕ → Rolled
-unrolled k out = record { outcome = NoRoll k; output = out }
+abbrev pub unrolled : List ℕ → ℕ → Rolled
+unrolled out k = record { outcome = RollRefused k; output = out }
 
 -- 'its length, at most n, is returned and output words past it keep their content'; 'Has the output that many words? 17.'
-unfoldable pub rollWritten : Traversal → List ℕ → Rolled
-rollWritten lost out = unrolled 16 out
-rollWritten (closed l) out =
-    if leb (length l) (length out) then record { outcome = Length (length l); output = l ++ drop (length l) out } else unrolled 17 out
+unfoldable pub rollWritten : List ℕ → Traversal → Rolled
+rollWritten out lost = unrolled out 16
+rollWritten out (closed l) =
+    require (leb (length l) (length out)) (unrolled out 17)
+    (record { outcome = Length (length l); output = l ++ drop (length l) out })
 
 -- 'hub below n? 4. State 2 to 4? 5.', then 16 and 17
 unfoldable pub rollCall : List ℕ → ℕ → List ℕ → Rolled
-rollCall w h out =
-    if long w
-    then (if wellFormed w
-    then (if ltb h (countIn w)
-    then (if inRing (row (read w) h) then rollWritten (roll (read w) h (countIn w) h) out else unrolled 5 out)
-    else unrolled 4 out)
-    else unrolled 2 out)
-    else unrolled 1 out
+rollCall w hub out =
+    onRecord w (unrolled out)
+    (require (ltb hub (countIn w)) (unrolled out 4)
+    (require (inRing (row (read w) hub)) (unrolled out 5)
+    (rollWritten out (roll (read w) hub (countIn w) hub))))

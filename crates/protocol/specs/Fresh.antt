@@ -5,17 +5,17 @@ use lib.ListN.{getD, set}
 use Rattle.protocol.specs.declared.Row.{Row}
 use Rattle.protocol.specs.Record.{none, State, outside}
 
--- The hub that is alone in the ring at first: 'hub 0'.
+-- The hub that founds the ring: 'hub 0', whatever the identifiers are. The ledger starts with it too, so it is named here alone.
 abbrev pub founder : List ℕ → ℕ
 founder ids = 0
 
 -- 'inside, unlocked, its own pred and succ'
 abbrev pub alone : ℕ → ℕ → Row
-alone h i = record { identifier = i; state = 2; lock = 0; flag = 0; pred = h; succ = h; oldpred = none }
+alone hub name = record { identifier = name; state = 2; lock = 0; flag = 0; pred = hub; succ = hub; oldpred = none }
 
--- The ring in which hub h is alone; 'the others are outside'.
+-- The rows of the ring that a hub founds; 'the others are outside'.
 abbrev pub foundedBy : ℕ → List ℕ → List Row
-foundedBy h ids = set (map outside ids) h (alone h (getD ids h 0))
+foundedBy hub ids = set (map outside ids) hub (alone hub (getD ids hub 0))
 
 -- 'asked 0, no message'
 unfoldable pub fresh : List ℕ → State

@@ -1,5 +1,6 @@
 -- Document 01, 'Each kind below names what t, the receiver, must be. f is the sender.'
--- m is the delivered message, so t is m .to and f is m .from; h is t's row. A receiver that is not as required is 10.
+-- m is the delivered message, so t is m .to and f is m .from; h is t's row, and p the identifier of the hub that is its pred.
+-- 'Receiver, and hub a for JOIN, as required? 10.'
 use mathlib.Core.Bool.{Bool, _&&_}
 use Prim.Native.Nat.{ℕ, _+_}
 use lib.Dec.{ltb, eqb}
@@ -13,7 +14,7 @@ use Rattle.protocol.specs.declared.Decision.{Decision}
 use Rattle.protocol.specs.declared.Decision.the-variants.{Refuse, Reply, Send}
 use Rattle.protocol.specs.Names.{LOOKUP, JOIN, JOINRETRY, JOINPOINT, NEWSUCC, NEWSUCCACK, JOINDONE, LEAVEREQ, LEAVERETRY, LEAVEGRANT, LEAVEPOINT, UPDATESUCC, STOPFORWARD, LEAVEDONE}
 use Rattle.protocol.specs.Record.{none}
-use Rattle.protocol.specs.Routing.{inRing, inside, route}
+use Rattle.protocol.specs.Routing.{inRing, responsible, route}
 
 -- A question, and a message of any other kind, in which b and hops are 0.
 abbrev pub question : ℕ → ℕ → ℕ → ℕ → ℕ → Message
@@ -44,34 +45,34 @@ withSucc h v =
     record { identifier = h .identifier; state = h .state; lock = h .lock; flag = h .flag; pred = h .pred; succ = v; oldpred = h .oldpred }
 
 -- 1 LOOKUP (a number, b ticket): 'state 2 to 4. Hops grow by 1, staying at 65535 once there. Routed; the owner answers found.'
--- p is the identifier of t's pred.
 unfoldable pub grown : Message → ℕ
 grown m = if ltb (m .hops) 65535 then m .hops + 1 else m .hops
 
-unfoldable pub lookedUp : Row → Message → Route → Decision
-lookedUp h m Own = Reply h (Found (m .to) (m .a) (m .b) (grown m))
-lookedUp h m (To z) = Send h (question (m .to) z (m .a) (m .b) (grown m)) Quiet
+unfoldable pub lookupRouted : Row → Message → Route → Decision
+lookupRouted h m Own = Reply h (Found (m .to) (m .a) (m .b) (grown m))
+lookupRouted h m (To z) = Send h (question (m .to) z (m .a) (m .b) (grown m)) Quiet
 
 unfoldable pub lookup : ℕ → Row → Message → Decision
-lookup p h m = if inRing h then lookedUp h m (route p h (m .from) (m .a)) else Refuse 10
+lookup p h m = if inRing h then lookupRouted h m (route p h (m .from) (m .a)) else Refuse 10
 
 -- 2 JOIN: 'hub a in state 1. At t in state 0 or 1: JOINRETRY to a. Otherwise routed by a's identifier; an owner with lock 1 sends
 -- JOINRETRY to a; with lock 0 it locks, sets the flag, oldpred = pred, pred = a, sends JOINPOINT (a = oldpred) to hub a and answers
--- entered.' p is the identifier of t's pred, and g the row of hub a.
+-- entered.' g is the row of hub a.
 abbrev pub joinRetried : Row → Message → Decision
 joinRetried h m = Send h (note JOINRETRY (m .to) (m .a) 0) Quiet
 
 abbrev pub admitted : Row → ℕ → Row
 admitted h a = withPred (withFlag (withLock h 1) 1 (h .pred)) a
 
-unfoldable pub joined : Row → Message → Route → Decision
-joined h m Own = if eqb (h .lock) 1 then joinRetried h m else Send (admitted h (m .a)) (note JOINPOINT (m .to) (m .a) (h .pred)) (Entered (m .a))
-joined h m (To z) = Send h (note JOIN (m .to) z (m .a)) Quiet
+unfoldable pub joinRouted : Row → Message → Route → Decision
+joinRouted h m Own =
+    if eqb (h .lock) 1 then joinRetried h m else Send (admitted h (m .a)) (note JOINPOINT (m .to) (m .a) (h .pred)) (Entered (m .a))
+joinRouted h m (To z) = Send h (note JOIN (m .to) z (m .a)) Quiet
 
 unfoldable pub join : ℕ → Row → Row → Message → Decision
 join p h g m =
     if eqb (g .state) 1
-    then (if ltb (h .state) 2 then joinRetried h m else joined h m (route p h (m .from) (g .identifier)))
+    then (if ltb (h .state) 2 then joinRetried h m else joinRouted h m (route p h (m .from) (g .identifier)))
     else Refuse 10
 
 -- 3 JOINRETRY: 'state 1. State 0, lock 0. Join turned away.'
@@ -81,11 +82,13 @@ joinRetry h m = if eqb (h .state) 1 then Reply (withLock (withState h 0) 0) (Joi
 -- 4 JOINPOINT: 'state 1. State 2, pred = a, succ = f; NEWSUCC to a.'
 unfoldable pub joinPoint : Row → Message → Decision
 joinPoint h m =
-    if eqb (h .state) 1 then Send (withSucc (withPred (withState h 2) (m .a)) (m .from)) (note NEWSUCC (m .to) (m .a) 0) Quiet else Refuse 10
+    if eqb (h .state) 1
+    then Send (withSucc (withPred (withState h 2) (m .a)) (m .from)) (note NEWSUCC (m .to) (m .a) 0) Quiet
+    else Refuse 10
 
 -- 5 NEWSUCC: 'state 2 or 3. NEWSUCCACK (a = f) to succ; then succ = f.'
 unfoldable pub newSucc : Row → Message → Decision
-newSucc h m = if inside h then Send (withSucc h (m .from)) (note NEWSUCCACK (m .to) (h .succ) (m .from)) Quiet else Refuse 10
+newSucc h m = if responsible h then Send (withSucc h (m .from)) (note NEWSUCCACK (m .to) (h .succ) (m .from)) Quiet else Refuse 10
 
 -- 6 NEWSUCCACK: 'flag 1. Flag 0, oldpred none, lock 0; JOINDONE to a.'
 unfoldable pub newSuccAck : Row → Message → Decision
@@ -100,7 +103,9 @@ joinDone h m =
 unfoldable pub leaveReq : Row → Message → Decision
 leaveReq h m =
     if inRing h
-    then (if eqb (h .lock) 1 then Send h (note LEAVERETRY (m .to) (m .from) 0) Quiet else Send (withLock h 1) (note LEAVEGRANT (m .to) (m .from) 0) Quiet)
+    then (if eqb (h .lock) 1
+    then Send h (note LEAVERETRY (m .to) (m .from) 0) Quiet
+    else Send (withLock h 1) (note LEAVEGRANT (m .to) (m .from) 0) Quiet)
     else Refuse 10
 
 -- 9 LEAVERETRY: 'state 3. State 2, lock 0. Leave turned away.'
@@ -118,11 +123,11 @@ leavePoint h m =
 
 -- 12 UPDATESUCC: 'state 2 or 3. STOPFORWARD to succ; then succ = f.'
 unfoldable pub updateSucc : Row → Message → Decision
-updateSucc h m = if inside h then Send (withSucc h (m .from)) (note STOPFORWARD (m .to) (h .succ) 0) Quiet else Refuse 10
+updateSucc h m = if responsible h then Send (withSucc h (m .from)) (note STOPFORWARD (m .to) (h .succ) 0) Quiet else Refuse 10
 
 -- 13 STOPFORWARD: 'state 4. LEAVEDONE to succ; state 0, lock 0, pointers none. Left.'
 abbrev pub departed : Row → Row
-departed h = withSucc (withPred (withLock (withState h 0) 0) none) none
+departed h = withFlag (withSucc (withPred (withLock (withState h 0) 0) none) none) (h .flag) none
 
 unfoldable pub stopForward : Row → Message → Decision
 stopForward h m = if eqb (h .state) 4 then Send (departed h) (note LEAVEDONE (m .to) (h .succ) 0) (Left (m .to)) else Refuse 10
@@ -131,7 +136,7 @@ stopForward h m = if eqb (h .state) 4 then Send (departed h) (note LEAVEDONE (m 
 unfoldable pub leaveDone : Row → Message → Decision
 leaveDone h m = if eqb (h .state) 2 && eqb (h .lock) 1 && eqb (h .flag) 0 then Reply (withLock h 0) Quiet else Refuse 10
 
--- By kind. (No other kind is well formed.)
+-- By kind; g is the row of the hub that a names in a JOIN. (No other kind is well formed.)
 unfoldable pub handle : ℕ → Row → Row → Message → Decision
 handle p h g m =
     if eqb (m .kind) LOOKUP then lookup p h m

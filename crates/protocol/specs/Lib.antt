@@ -5,6 +5,6 @@ pub mod Fresh
 pub mod Routing
 pub mod Kinds
 pub mod Step
-pub mod Calls
 pub mod Answers
 pub mod Membership
+pub mod Calls

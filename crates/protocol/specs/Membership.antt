@@ -1,5 +1,5 @@
--- Document 01, 'Ledger and holders': the ledger (here: the membership) and the counts of questions.
--- It is fed the outcomes of the calls and the identifiers that the fresh call was given, and nothing of the record.
+-- Document 01, 'Ledger and holders': the ledger (here: the membership), holders and the counts of questions.
+-- 'It is fed these answers and the identifiers that the fresh call was given, and nothing of the record.'
 use mathlib.Core.Bool.{Bool, _&&_}
 use mathlib.Core.List.{List, [], _∷_}
 use Prim.Native.Nat.{ℕ, _+_}
@@ -13,8 +13,9 @@ use Rattle.protocol.specs.declared.Answer.the-variants.{Quiet, Found, En
 use Rattle.protocol.specs.declared.Outcome.{Outcome}
 use Rattle.protocol.specs.declared.Outcome.the-variants.{Refused, Answered}
 use Rattle.protocol.specs.Names.{LOOKUP}
-use Rattle.protocol.specs.Record.{round}
+use Rattle.protocol.specs.Record.{round, State, row, identifier}
 use Rattle.protocol.specs.Fresh.{founder}
+use Rattle.protocol.specs.Routing.{responsible, covers}
 
 -- 'The ledger is a set of hub numbers, at first {0}', the hub that founds the ring.
 abbrev pub foundingMembers : List ℕ → List ℕ
@@ -22,11 +23,11 @@ foundingMembers ids = founder ids ∷ []
 
 -- 'It takes in the hub of each entered answer and strikes off the hub of each gone answer.'
 unfoldable pub struckOff : List ℕ → ℕ → List ℕ
-struckOff [] h = []
-struckOff (k ∷ members) h = if eqb k h then struckOff members h else k ∷ struckOff members h
+struckOff [] hub = []
+struckOff (k ∷ members) hub = if eqb k hub then struckOff members hub else k ∷ struckOff members hub
 
 unfoldable pub takenIn : List ℕ → ℕ → List ℕ
-takenIn members h = h ∷ struckOff members h
+takenIn members hub = hub ∷ struckOff members hub
 
 -- 'Every other answer, and every refusal, leaves it as it is.'
 abbrev pub afterAnswer : List ℕ → Answer → List ℕ
@@ -49,12 +50,16 @@ pub data Owner : Type 0 where
   node : ℕ → Owner
 
 unfoldable pub nearer : List ℕ → ℕ → ℕ → Owner → Owner
-nearer ids v h nobody = node h
-nearer ids v h (node k) = if leb (dist round v (getD ids h 0)) (dist round v (getD ids k 0)) then node h else node k
+nearer ids v hub nobody = node hub
+nearer ids v hub (node k) = if leb (dist round v (getD ids hub 0)) (dist round v (getD ids k 0)) then node hub else node k
 
 unfoldable pub ownerAmong : List ℕ → List ℕ → ℕ → Owner
 ownerAmong ids [] v = nobody
-ownerAmong ids (h ∷ members) v = nearer ids v h (ownerAmong ids members v)
+ownerAmong ids (hub ∷ members) v = nearer ids v hub (ownerAmong ids members v)
+
+-- 'A hub holds v when its state is 2 or 3 and v is in (pred, its identifier].'
+unfoldable pub holds : State → ℕ → ℕ → Bool
+holds s hub v = responsible (row s hub) && covers (identifier s (row s hub .pred)) (row s hub) v
 
 -- 'questions waiting are the LOOKUP messages in the record'
 unfoldable pub waiting : List Message → ℕ

@@ -1,4 +1,6 @@
 -- Document 01, 'Ring record': the typed state, the 1,988 words that stand for it, and the way back.
+-- (Here and below: `abbrev` and `unfoldable` say what a proof may see through, and nothing about the meaning. A hub of document 01 is a
+-- node in names, and its machine number a key; h, g are rows, m a message, v a machine number.)
 use mathlib.Core.List.{List, [], _∷_, _++_}
 use Prim.Native.Nat.{ℕ, _+_, _-_, _*_, _^_}
 use lib.ListN.{length, getD, replicate}
@@ -43,7 +45,7 @@ recordSize = 1988
 abbrev pub none : ℕ
 none = 255
 
--- The record as values: the hub count is the number of rows, and the message count that of messages, 'oldest first'.
+-- The record as values: the hub count is the number of rows, and the message count that of messages, oldest first.
 pub record State : Type 0 where
   pub rows : List Row
   pub messages : List Message
@@ -60,12 +62,19 @@ rowWords h = h .identifier ∷ h .state ∷ h .lock ∷ h .flag ∷ h .pred ∷ 
 abbrev pub messageWords : Message → List ℕ
 messageWords m = m .kind ∷ m .from ∷ m .to ∷ m .a ∷ m .b ∷ m .hops ∷ []
 
+-- How many words n rows, or m messages, leave unused.
+abbrev pub unusedRowWords : ℕ → ℕ
+unusedRowWords n = rowSize * (mostNodes - n)
+
+abbrev pub unusedMessageWords : ℕ → ℕ
+unusedMessageWords m = messageSize * (mostMessages - m)
+
 -- The words of the record; unused rows and messages are all 0.
 unfoldable pub words : State → List ℕ
 words s =
     (form ∷ count s ∷ length (s .messages) ∷ s .asked ∷ [])
-    ++ (flat rowWords (s .rows) ++ (replicate (rowSize * mostNodes - rowSize * count s) 0
-    ++ (flat messageWords (s .messages) ++ replicate (messageSize * mostMessages - messageSize * length (s .messages)) 0)))
+    ++ (flat rowWords (s .rows) ++ (replicate (unusedRowWords (count s)) 0
+    ++ (flat messageWords (s .messages) ++ replicate (unusedMessageWords (length (s .messages))) 0)))
 
 -- The row, and the message, whose first word is at a place.
 abbrev pub rowFrom : List ℕ → ℕ → Row
@@ -107,16 +116,16 @@ read w = record {
   asked = askedIn w;
 }
 
--- A hub that is not in the ring and takes part in nothing. This is also the row of a hub number that is not below n.
+-- The row of a hub that is not in the ring and takes part in nothing.
 abbrev pub outside : ℕ → Row
-outside i = record { identifier = i; state = 0; lock = 0; flag = 0; pred = none; succ = none; oldpred = none }
+outside name = record { identifier = name; state = 0; lock = 0; flag = 0; pred = none; succ = none; oldpred = none }
 
--- The row of a hub, and a hub's identifier.
+-- The row of a hub, and a hub's identifier. (A hub number that is not below n counts as outside, with identifier 0.)
 abbrev pub row : State → ℕ → Row
-row s i = getD (s .rows) i (outside 0)
+row s hub = getD (s .rows) hub (outside 0)
 
 abbrev pub identifier : State → ℕ → ℕ
-identifier s i = row s i .identifier
+identifier s hub = row s hub .identifier
 
 -- No message: all words 0.
 abbrev pub noMessage : Message
@@ -125,12 +134,15 @@ noMessage = record { kind = 0; from = 0; to = 0; a = 0; b = 0; hops = 0 }
 abbrev pub message : State → ℕ → Message
 message s j = getD (s .messages) j noMessage
 
--- The one row changed, one message put last, and one taken out with the later ones moved up: all that a step does.
+-- One row changed, one message put last, one taken out with the later ones moved up, and one more question asked: all that steps do.
 abbrev pub withRow : State → ℕ → Row → State
-withRow s i h = record { rows = lib.ListN.set (s .rows) i h; messages = s .messages; asked = s .asked }
+withRow s hub h = record { rows = lib.ListN.set (s .rows) hub h; messages = s .messages; asked = s .asked }
 
 abbrev pub sent : State → Message → State
 sent s m = record { rows = s .rows; messages = s .messages ++ (m ∷ []); asked = s .asked }
 
 abbrev pub taken : State → ℕ → State
 taken s j = record { rows = s .rows; messages = lib.ListN.take j (s .messages) ++ lib.ListN.drop (j + 1) (s .messages); asked = s .asked }
+
+abbrev pub ticketed : State → State
+ticketed s = record { rows = s .rows; messages = s .messages; asked = s .asked + 1 }

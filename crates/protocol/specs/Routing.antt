@@ -13,9 +13,9 @@ use Rattle.protocol.specs.Record.{round}
 unfoldable pub inRing : Row → Bool
 inRing h = leb 2 (h .state) && ltb (h .state) 5
 
--- 'state 2 or 3'
-unfoldable pub inside : Row → Bool
-inside h = leb 2 (h .state) && ltb (h .state) 4
+-- 'state 2 or 3': not leaving yet
+unfoldable pub responsible : Row → Bool
+responsible h = leb 2 (h .state) && ltb (h .state) 4
 
 -- v is in (pred, the hub's identifier]
 unfoldable pub covers : ℕ → Row → ℕ → Bool

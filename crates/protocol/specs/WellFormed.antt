@@ -1,4 +1,4 @@
--- Document 01, 'Well formed', of the words. A State's part of it is `formed`.
+-- Document 01, 'Well formed', of the words; the part of it that is about the typed state is `formed`.
 use mathlib.Core.Bool.{Bool, _&&_, _||_}
 use mathlib.Core.List.{List, map}
 use Prim.Native.Nat.{ℕ, _+_, _-_, _*_}
@@ -9,9 +9,9 @@ use Rattle.lists.specs.Tests.{every, distinct}
 use Rattle.protocol.specs.declared.Row.{Row}
 use Rattle.protocol.specs.declared.Message.{Message}
 use Rattle.protocol.specs.Names.{LOOKUP, JOIN, JOINPOINT, NEWSUCCACK, LEAVEPOINT}
-use Rattle.protocol.specs.Record.{round, form, mostNodes, mostMessages, rowSize, messageSize, rowStart, messageStart, none, State, count, countIn, messagesIn, read}
+use Rattle.protocol.specs.Record.{round, form, mostNodes, mostMessages, unusedRowWords, unusedMessageWords, rowStart, messageStart, none, State, count, countIn, messagesIn, read}
 
--- 'states 0 and 1 have pred and succ none, states 2 to 4 have both below n'
+-- 'States: 0 .. 4'; 'states 0 and 1 have pred and succ none, states 2 to 4 have both below n'
 unfoldable pub pointersOk : ℕ → Row → Bool
 pointersOk n h =
     if ltb (h .state) 2 then eqb (h .pred) none && eqb (h .succ) none else ltb (h .state) 5 && ltb (h .pred) n && ltb (h .succ) n
@@ -20,7 +20,7 @@ pointersOk n h =
 unfoldable pub lockOk : Row → Bool
 lockOk h = if eqb (h .state) 2 then ltb (h .lock) 2 else if eqb (h .state) 0 then eqb (h .lock) 0 else eqb (h .lock) 1
 
--- 'flag 1 needs state 2, lock 1 and oldpred below n; flag 0 has oldpred none'
+-- 'forward flag (0, 1)'; 'flag 1 needs state 2, lock 1 and oldpred below n; flag 0 has oldpred none'
 unfoldable pub flagOk : ℕ → Row → Bool
 flagOk n h =
     if eqb (h .flag) 0 then eqb (h .oldpred) none else eqb (h .flag) 1 && eqb (h .state) 2 && eqb (h .lock) 1 && ltb (h .oldpred) n
@@ -58,10 +58,10 @@ headerOk w = eqb (getD w 0 0) form && leb 1 (countIn w) && leb (countIn w) mostN
 
 -- 'unused rows and messages are all 0'
 abbrev pub unusedRows : List ℕ → List ℕ
-unusedRows w = take (rowSize * mostNodes - rowSize * countIn w) (drop (rowStart (countIn w)) w)
+unusedRows w = take (unusedRowWords (countIn w)) (drop (rowStart (countIn w)) w)
 
 abbrev pub unusedMessages : List ℕ → List ℕ
-unusedMessages w = take (messageSize * mostMessages - messageSize * messagesIn w) (drop (messageStart (messagesIn w)) w)
+unusedMessages w = take (unusedMessageWords (messagesIn w)) (drop (messageStart (messagesIn w)) w)
 
 unfoldable pub unusedOk : List ℕ → Bool
 unusedOk w = every (λ x. eqb x 0) (unusedRows w) && every (λ x. eqb x 0) (unusedMessages w)

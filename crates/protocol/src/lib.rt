@@ -1,6 +1,7 @@
 // The values of the ring protocol. Their meaning is in specs/, in the order of document 01.
 
-// What is known of one node (document 01: hub row), in the order of its seven words.
+// A node of the ring (document 01: a hub) has a number below the node count, and this row of seven
+// words (document 01: hub row).
 pub struct Row {
     pub identifier: u32,
     pub state: u32,
@@ -38,13 +39,13 @@ pub enum Answer {
     Left(u32),
 }
 
-// What a call gives: an answer, or the number of a refusal.
+// What a step or a fresh call gives: an answer, or the number of a refusal.
 pub enum Outcome {
     Refused(u32),
     Answered(Answer),
 }
 
-// Where a key goes from a node: the node owns it, or sends it on.
+// Where a key (document 01: machine number) goes from a node: the node owns it, or sends it on.
 pub enum Route {
     Own,
     To(u32),
@@ -60,13 +61,13 @@ pub enum Decision {
 
 // What the owner query gives: the node that holds the key, or the number of a refusal.
 pub enum Ownership {
-    Unheld(u32),
+    Refused(u32),
     HeldBy(u32),
 }
 
 // What a roll call gives: the length of the roll, or the number of a refusal.
 pub enum Roll {
-    NoRoll(u32),
+    Refused(u32),
     Length(u32),
 }
 

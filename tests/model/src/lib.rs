@@ -1,8 +1,8 @@
-//! A plain model of the depot hub ring, written from document 01 alone.
+//! A plain model of the depot hub ring of document 01, for differential tests.
 //!
 //! It is meant to be read beside that paper and run beside an engine: each
 //! rule stands here once, in the paper's order, with no thought for speed.
-//! Nothing in it is shared with any engine.
+//! It shares no code with any engine.
 
 #![forbid(unsafe_code)]
 #![warn(missing_docs)]

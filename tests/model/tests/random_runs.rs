@@ -50,9 +50,12 @@ fn random_run(seed: u64, n: usize, mix: Mix, calls: usize, met: &mut Met) {
         let next = command(&mut generator, mix, &run.state());
         call(&mut run, next, met);
     }
+    let mut deliveries = 0;
     while !run.state().messages.is_empty() {
         let next = delivery(&mut generator, &run.state());
         call(&mut run, next, met);
+        deliveries += 1;
+        assert!(deliveries < 100_000, "the ring does not come to rest");
     }
     run.assert_at_rest();
     let lookups = run.witness.lookups();

@@ -45,6 +45,7 @@ fn explore(identifiers: &[u32], lookups: u32) -> usize {
             if accepted && met.insert((next.state(), next.witness.membership().clone())) {
                 open.push(next);
             }
+            assert!(met.len() < 200_000, "a lookup goes round for ever");
         }
     }
     met.len()

@@ -109,10 +109,9 @@ impl Run {
     pub fn drain(&mut self) -> Vec<Answer> {
         let mut answers = Vec::new();
         while let Some(oldest) = self.state().messages.first() {
-            answers.push(
-                self.deliver(oldest.from, oldest.to)
-                    .expect("deliver is accepted"),
-            );
+            let answer = self.deliver(oldest.from, oldest.to);
+            answers.push(answer.expect("deliver is accepted"));
+            assert!(answers.len() < 1000, "the ring does not come to rest");
         }
         answers
     }

@@ -17,6 +17,7 @@ pub fn every_order(start: &Run, at_rest: &mut dyn FnMut(&Run)) -> usize {
         if !met.insert((run.state(), run.witness.membership().clone())) {
             continue;
         }
+        assert!(met.len() < 100_000, "the ring does not come to rest");
         let links = run.links();
         if links.is_empty() {
             at_rest(&run);

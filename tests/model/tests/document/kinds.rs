@@ -206,6 +206,16 @@ fn row_words(form: usize) -> [u32; 7] {
     [11, 12, 13, 14, 15, 16, 17].map(|index| words[index])
 }
 
+/// The interval is open at pred: a node whose pred is the joiner does not own
+/// the joiner's identifier and sends the join on.
+#[test]
+fn join_at_a_node_whose_pred_is_the_joiner() {
+    let rows = [inside(100, 2, 2), joiner(), inside(200, 1, 0)];
+    let mut words = record(0, &rows, &[message(JOIN, 1, 2, 1)]);
+    assert_eq!(step(&mut words, 3, 1, 2), Ok(Answer::quiet()));
+    assert_eq!(words[452..458], [JOIN, 2, 0, 1, 0, 0]);
+}
+
 /// A joiner may meet its own JOIN, sent on by another.
 #[test]
 fn join_that_meets_its_joiner() {
