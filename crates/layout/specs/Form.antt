@@ -9,14 +9,13 @@ use native.Mathlib.Omega.{arith}
 use lib.Dec.{T, leb, ltb, eqb}
 use lib.ListN.{length, getD, take, drop, replicate, length-append}
 use Rattle.lists.specs.Choice.{if_then_else_}
-use Rattle.lists.specs.Blocks.{length-table}
 use Rattle.lists.specs.Members.{Mem, mem-at}
 use Rattle.lists.specs.Tests.{and-left, and-right, and-both, Says, says-and, says-if, says-le, says-lt, says-eq, says-as, every, says-every, distinct, Distinct, says-distinct, →eqb}
 use Rattle.protocol.specs.declared.Row.{Row}
 use Rattle.protocol.specs.declared.Message.{Message}
-use Rattle.protocol.specs.Record.{form, mostNodes, mostMessages, rowSize, messageSize, recordSize, unusedRowWords, unusedMessageWords, none, State, count, countIn, messagesIn, row, read, words, outside, rowFrom, messageFrom, rowStart, messageStart}
+use Rattle.protocol.specs.Record.{form, mostNodes, mostMessages, rowSize, messageSize, recordSize, unusedRowWords, unusedMessageWords, none, State, count, countIn, messagesIn, row, read, words, outside}
 use Rattle.protocol.specs.WellFormed.{pointersOk, lockOk, flagOk, rowOk, limitA, limitB, limitHops, messageOk, identifiers, formed, headerOk, unusedRows, unusedMessages, unusedOk, wellFormed}
-use Rattle.layout.specs.Words.{Tidy, read-words, words-read, count-read, messages-read, form-read, unused-rows-read, unused-messages-read, length-words}
+use Rattle.layout.specs.Words.{Tidy, read-words, words-read, count-read, messages-read, form-read, unused-rows-read, unused-messages-read, length-words, count-of-read, messages-of-read}
 
 -- a row, in a ring of n hubs
 pub record RowForm (n : ℕ) (h : Row) : Type 0 where
@@ -171,11 +170,6 @@ pub says-well-formed : (w : List ℕ) → Says (wellFormed w) ((Header w × (Zer
 unfolding wellFormed
 says-well-formed w = says-and (says-and (says-header w) (says-unused w)) (says-formed (read w))
 
--- the sizes of the state that words stand for
-pub read-sizes : (w : List ℕ) → (count (read w) ≡ countIn w) × (length (read w .messages) ≡ messagesIn w)
-unfolding read
-read-sizes w = (length-table (countIn w) (λ i. rowFrom w (rowStart i)), length-table (messagesIn w) (λ j. messageFrom w (messageStart j)))
-
 -- A well-formed record is tidy, and stands for a well-formed state.
 module _ (w : List ℕ) (ok : T (wellFormed w)) where
   pub tidy : recordSize ≤ length w → Tidy w
@@ -189,10 +183,10 @@ module _ (w : List ℕ) (ok : T (wellFormed w)) where
   }
 
   pub form-of : Form (read w)
-  form-of = let k = says-well-formed w .to ok in let z = read-sizes w in record {
-    some = omega (arith, k .0 .0 .0 .0 .1, z .0);
-    few = omega (arith, k .0 .0 .0 .1, z .0);
-    short = omega (arith, k .0 .0 .1, z .1);
+  form-of = let k = says-well-formed w .to ok in record {
+    some = omega (arith, k .0 .0 .0 .0 .1, count-of-read w);
+    few = omega (arith, k .0 .0 .0 .1, count-of-read w);
+    short = omega (arith, k .0 .0 .1, messages-of-read w);
     differ = k .1 .0 .0;
     rows = k .1 .0 .1;
     messages = k .1 .1;

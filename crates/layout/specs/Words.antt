@@ -1,19 +1,22 @@
 -- Words and typed state: what is written is read, and what is read is written. Assumes nothing.
 use mathlib.Core.Path.{_≡_, refl, ap, sym, _∙_}
-use mathlib.Core.Bool.{Bool, true, false}
+use mathlib.Core.Bool.{_&&_}
 use mathlib.Core.List.{List, [], _∷_, _++_, append-assoc, append-nil}
 use Prim.Native.Nat.{ℕ, suc, zero, _+_, _-_, _*_, _≤_, _<_}
 use native.Mathlib.Nat.{add-assoc, mul-zero, mul-suc}
 use native.Mathlib.Numerals.{add-one}
 use native.Mathlib.Omega.{arith}
-use lib.ListN.{length, take, drop, getD, replicate, length-append, length-replicate, length-take, length-drop, getD-replicate, take-append-drop}
+use lib.Dec.{eqb}
+use lib.ListN.{length, take, drop, getD, replicate, length-append, length-replicate, length-take, length-drop, getD-replicate, take-append-drop, List·getD-eq-default}
 use lib.Seq.{getD-append-add, getD-append-seam, drop-at, take-at, take-length, drop-cons, take-add, drop-drop, ext-getD, getD-take, getD-drop}
 use Rattle.lists.specs.Members.{Mem, mem-at}
-use Rattle.lists.specs.Blocks.{table, length-table, table-of, flat, flat-append, flat-split, length-flat, length-front}
+use Rattle.lists.specs.Search.{first}
+use Rattle.lists.specs.Blocks.{table, length-table, getD-table, table-of, flat, flat-append, flat-split, length-flat, length-front}
 use Rattle.protocol.specs.declared.Row.{Row}
 use Rattle.protocol.specs.declared.Message.{Message}
-use Rattle.protocol.specs.Record.{form, mostNodes, mostMessages, rowSize, messageSize, rowStart, messageStart, recordSize, unusedRowWords, unusedMessageWords, State, count, countIn, messagesIn, askedIn, rowWords, messageWords, words, rowFrom, messageFrom, read, outside, noMessage}
+use Rattle.protocol.specs.Record.{form, mostNodes, mostMessages, rowSize, messageSize, rowStart, messageStart, recordSize, unusedRowWords, unusedMessageWords, State, count, countIn, messagesIn, askedIn, rowWords, messageWords, words, rowFrom, messageFrom, read, row, message, outside, noMessage}
 use Rattle.protocol.specs.WellFormed.{unusedRows, unusedMessages}
+use Rattle.protocol.specs.Step.{onLink, oldest}
 
 pub row-size : (h : Row) → length (rowWords h) ≡ rowSize
 row-size h = refl
@@ -31,12 +34,15 @@ rowPadding s = replicate (unusedRowWords (count s)) 0
 abbrev pub messagePadding : State → List ℕ
 messagePadding s = replicate (unusedMessageWords (length (s .messages))) 0
 
--- The words before the messages.
-pub front : State → List ℕ
-front s = header s ++ (flat rowWords (s .rows) ++ rowPadding s)
+-- The words before the messages, with m as their count.
+unfoldable pub front : List Row → ℕ → ℕ → List ℕ
+front rows asked m = (form ∷ length rows ∷ m ∷ asked ∷ []) ++ (flat rowWords rows ++ replicate (unusedRowWords (length rows)) 0)
+
+abbrev pub frontOf : State → List ℕ
+frontOf s = front (s .rows) (s .asked) (length (s .messages))
 
 module _ (s : State) (t : List ℕ) where
-  pub words-split : words s ++ t ≡ front s ++ (flat messageWords (s .messages) ++ (messagePadding s ++ t))
+  pub words-split : words s ++ t ≡ frontOf s ++ (flat messageWords (s .messages) ++ (messagePadding s ++ t))
   unfolding words front
   words-split = simp append-assoc
 
@@ -76,26 +82,27 @@ row-read s t i d l =
     e : words s ++ t ≡ (header s ++ flat rowWords (take i (s .rows))) ++ (rowWords (getD (s .rows) i d) ++ rest)
     e = rw (flat-split rowWords (s .rows) i d l) (simp append-assoc)
 
-pub front-length : (s : State) → count s ≤ mostNodes → length (front s) ≡ messageStart 0
+pub front-length : (rows : List Row) (asked m : ℕ) → length rows ≤ mostNodes → length (front rows asked m) ≡ messageStart 0
 unfolding front
-front-length s h = simp (length-append, length-replicate, length-flat rowWords rowSize row-size) (omega arith)
+front-length rows asked m h = simp (length-append, length-replicate, length-flat rowWords rowSize row-size) (omega arith)
 
 -- the words up to the end of some messages
-pub messages-length : (s : State) (l : List Message) → count s ≤ mostNodes → length (front s ++ flat messageWords l) ≡ messageStart (length l)
-messages-length s l h = simp (length-append, front-length s h, length-flat messageWords messageSize message-size)
+pub messages-length : (rows : List Row) (asked m : ℕ) (l : List Message) → length rows ≤ mostNodes
+    → length (front rows asked m ++ flat messageWords l) ≡ messageStart (length l)
+messages-length rows asked m l h = simp (length-append, front-length rows asked m h, length-flat messageWords messageSize message-size)
 
 -- the message read at its place
 pub message-read : (s : State) (t : List ℕ) (j : ℕ) (d : Message) → count s ≤ mostNodes → j < length (s .messages)
     → messageFrom (words s ++ t) (messageStart j) ≡ getD (s .messages) j d
 message-read s t j d h l =
     ap (λ w. messageFrom w (messageStart j)) e
-    ∙ message-seam (front s ++ flat messageWords (take j (s .messages))) rest (getD (s .messages) j d) (messageStart j)
-    (messages-length s (take j (s .messages)) h ∙ ap messageStart (lib.Seq.length-take-le j (s .messages) (omega arith)))
+    ∙ message-seam (frontOf s ++ flat messageWords (take j (s .messages))) rest (getD (s .messages) j d) (messageStart j)
+    (messages-length (s .rows) (s .asked) (length (s .messages)) (take j (s .messages)) h ∙ ap messageStart (lib.Seq.length-take-le j (s .messages) (omega arith)))
   where
     rest : List ℕ
     rest = flat messageWords (drop (suc j) (s .messages)) ++ (messagePadding s ++ t)
 
-    e : words s ++ t ≡ (front s ++ flat messageWords (take j (s .messages))) ++ (messageWords (getD (s .messages) j d) ++ rest)
+    e : words s ++ t ≡ (frontOf s ++ flat messageWords (take j (s .messages))) ++ (messageWords (getD (s .messages) j d) ++ rest)
     e = words-split s t ∙ rw (flat-split messageWords (s .messages) j d l) (simp append-assoc)
 
 -- a part between two seams
@@ -141,12 +148,12 @@ module _ (s : State) (t : List ℕ) (hn : count s ≤ mostNodes) (hm : length (s
   unused-messages-read =
       ap (λ z. take (unusedMessageWords z) (drop (messageStart z) (words s ++ t))) (messages-read s t)
       ∙ ap (λ w. take (unusedMessageWords (length (s .messages))) (drop (messageStart (length (s .messages))) w)) e
-      ∙ part-at (front s ++ flat messageWords (s .messages)) (messagePadding s) t (messageStart (length (s .messages)))
+      ∙ part-at (frontOf s ++ flat messageWords (s .messages)) (messagePadding s) t (messageStart (length (s .messages)))
       (unusedMessageWords (length (s .messages)))
-      (messages-length s (s .messages) hn) (length-replicate (unusedMessageWords (length (s .messages))) 0)
+      (messages-length (s .rows) (s .asked) (length (s .messages)) (s .messages) hn) (length-replicate (unusedMessageWords (length (s .messages))) 0)
     where
-      e : words s ++ t ≡ (front s ++ flat messageWords (s .messages)) ++ (messagePadding s ++ t)
-      e = words-split s t ∙ sym (append-assoc (front s) (flat messageWords (s .messages)) (messagePadding s ++ t))
+      e : words s ++ t ≡ (frontOf s ++ flat messageWords (s .messages)) ++ (messagePadding s ++ t)
+      e = words-split s t ∙ sym (append-assoc (frontOf s) (flat messageWords (s .messages)) (messagePadding s ++ t))
 
 -- one word more at the front of what is left from a on
 one : (w : List ℕ) (a : ℕ) → a < length w → drop a w ≡ getD w a 0 ∷ drop (a + 1) w
@@ -219,3 +226,35 @@ words-read w t =
     sym (one w 0 (omega arith)
     ∙ rw (length-table, length-table, rows, cells, ← rest, ← tail, next w 0 1 (omega arith), next w 0 2 (omega arith), next w 0 3 (omega arith))
     (rw (t .version) (ap (λ l. form ∷ n ∷ m ∷ askedIn w ∷ l) (body w n m (t .nodes) (t .waiting)))))
+
+-- A row and a message of the state, by their words.
+pub row-of-read : (w : List ℕ) (i : ℕ) → i < countIn w → row (read w) i ≡ rowFrom w (rowStart i)
+unfolding read
+row-of-read w i l = getD-table (countIn w) (λ k. rowFrom w (rowStart k)) i (outside 0) l
+
+pub row-beyond : (w : List ℕ) (i : ℕ) → countIn w ≤ i → row (read w) i ≡ outside 0
+unfolding read
+row-beyond w i l =
+    List·getD-eq-default (table (countIn w) (λ k. rowFrom w (rowStart k))) (outside 0) (omega (arith, length-table (countIn w) (λ k. rowFrom w (rowStart k))))
+
+pub message-of-read : (w : List ℕ) (j : ℕ) → j < messagesIn w → message (read w) j ≡ messageFrom w (messageStart j)
+unfolding read
+message-of-read w j l = getD-table (messagesIn w) (λ k. messageFrom w (messageStart k)) j noMessage l
+
+-- The sizes of the state that words stand for.
+pub count-of-read : (w : List ℕ) → count (read w) ≡ countIn w
+unfolding read
+count-of-read w = length-table (countIn w) (λ i. rowFrom w (rowStart i))
+
+pub messages-of-read : (w : List ℕ) → length (read w .messages) ≡ messagesIn w
+unfolding read
+messages-of-read w = length-table (messagesIn w) (λ j. messageFrom w (messageStart j))
+
+-- The oldest message of a link, by the words.
+pub on-link-read : (w : List ℕ) (x y j : ℕ) → j < messagesIn w
+    → onLink (read w) x y j ≡ (eqb (getD w (messageStart j + 1) 0) x && eqb (getD w (messageStart j + 2) 0) y)
+unfolding onLink
+on-link-read w x y j l = ap (λ m. eqb (m .from) x && eqb (m .to) y) (message-of-read w j l)
+
+pub oldest-read : (w : List ℕ) (x y : ℕ) → oldest (read w) x y ≡ first (onLink (read w) x y) (messagesIn w)
+oldest-read w x y = ap (first (onLink (read w) x y)) (messages-of-read w)

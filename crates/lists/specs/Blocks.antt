@@ -1,11 +1,12 @@
 -- Tables of values, and lists of values as runs of words. Assumes nothing.
 use mathlib.Core.Path.{_≡_, refl, ap, sym, _∙_}
+use mathlib.Core.Logic.{_⊎_, inl, inr}
 use mathlib.Core.List.{List, [], _∷_, _++_, append-assoc}
 use Prim.Native.Nat.{ℕ, suc, zero, _+_, _*_, _≤_, _<_}
-use native.Mathlib.Nat.{add-comm, mul-zero, mul-suc}
+use native.Mathlib.Nat.{add-comm, mul-zero, mul-suc, eq-or-lt-of-le, le-of-suc-le-suc}
 use native.Mathlib.Numerals.{add-one}
 use native.Mathlib.Omega.{arith}
-use lib.ListN.{length, take, drop, getD, set, length-append}
+use lib.ListN.{length, take, drop, getD, set, length-append, List·getD-append}
 use lib.Seq.{length-take-le, split-at, set-split, getD-at, ext-getD}
 
 -- f 0, f 1, .., n of them
@@ -18,6 +19,15 @@ module _ {A : Type 0} where
   unfolding table
   length-table zero f = refl
   length-table (suc n) f = length-append (table n f) (f n ∷ []) ∙ ap (λ k. k + 1) (length-table n f) ∙ add-one n
+
+  pub getD-table : (n : ℕ) (f : ℕ → A) (i : ℕ) (d : A) → i < n → getD (table n f) i d ≡ f i
+  unfolding table
+  getD-table zero f i d h = absurd (omega arith)
+  getD-table (suc n) f i d h = go (eq-or-lt-of-le (le-of-suc-le-suc h)) (λ l. getD-table n f i d l)
+    where
+      go : (i ≡ n) ⊎ (i < n) → (i < n → getD (table n f) i d ≡ f i) → getD (table n f ++ (f n ∷ [])) i d ≡ f i
+      go (inl e) ih = getD-at (table n f) (f n) [] d i (length-table n f ∙ sym e) ∙ ap f (sym e)
+      go (inr l) ih = List·getD-append (table n f) (f n ∷ []) d i (omega (arith, length-table n f)) ∙ ih l
 
   -- a list is the table of its elements
   pub table-of : (l : List A) (d : A) (f : ℕ → A) (n : ℕ) → n ≤ length l → ((i : ℕ) → i < n → f i ≡ getD l i d) → table n f ≡ take n l

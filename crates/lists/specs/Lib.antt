@@ -3,3 +3,4 @@ pub mod Tests
 pub mod Members
 pub mod Search
 pub mod Blocks
+pub mod Splice

@@ -1,0 +1,91 @@
+use Rattle.lists.specs.Splice.{part-from, part-back}
+use Rattle.protocol.specs.Record.{messageStart}
+use Rattle.layout.specs.Edits.{removed}
+use borrow.Author.Needs.{needs}
+use Rattle.record.proofs.messages.remove.Statement.{statement}
+use Rattle.record.proofs.messages.remove.Tie as tie
+use Rattle.record.proofs.messages.remove.Reads as reads
+use Rattle.record.proofs.messages.remove.Lts as lts
+use Rattle.record.proofs.messages.close_up.Reads as close-up-reads
+
+-- src/messages.rt:102:20
+mul-at : tie.Need-mul-at
+mul-at c = search needs
+
+-- src/messages.rt:102:14
+add-at : tie.Need-add-at
+add-at c = search needs
+
+-- src/messages.rt:103:21
+sub-len : tie.Need-sub-len
+sub-len c = search needs
+
+-- src/messages.rt:103:21
+sub-len-2 : tie.Need-sub-len-2
+sub-len-2 c = search needs
+
+-- src/messages.rt:103:20
+cast-len : tie.Need-cast-len
+cast-len c = search needs
+
+-- src/messages.rt:103:15
+mul-len : tie.Need-mul-len
+mul-len c = search needs
+
+-- src/messages.rt:104:14
+mul-close-up : tie.Need-mul-close-up
+mul-close-up c = search needs
+
+-- src/messages.rt:104:14
+sub-close-up : tie.Need-sub-close-up
+sub-close-up c = search needs
+
+-- src/messages.rt:104:14
+part-close-up-start : tie.Need-part-close-up-start
+part-close-up-start c = search needs
+
+-- src/messages.rt:104:14
+part-close-up-end : tie.Need-part-close-up-end
+part-close-up-end c = search needs
+
+-- src/messages.rt:104:5
+close-up-requires : tie.Need-close-up-requires
+close-up-requires c κs = search needs
+
+-- src/messages.rt:105:12
+sub-w : tie.Need-sub-w
+sub-w c = search needs
+
+-- src/messages.rt:105:5
+slice-write-w : tie.Need-slice-write-w
+slice-write-w c = search needs
+
+-- src/messages.rt:98:1
+same-length : tie.Need-same-length
+same-length c = search needs
+
+-- src/messages.rt:98:1
+returns : tie.Need-returns
+unfolding removed
+returns c = let a = c .before .before .before .before .before .args in
+    rw (part-back (a .w .now) (c .before .before .close-up .last .0) (messageStart (a .j)), c .before .before .close-up .ensures, part-from (a .w .now) (messageStart (a .j)))
+
+pub remove-spec : {M : Type 1} → statement M
+remove-spec =
+    tie.close
+    (tie.spec
+    mul-at
+    add-at
+    sub-len
+    sub-len-2
+    cast-len
+    mul-len
+    mul-close-up
+    sub-close-up
+    part-close-up-start
+    part-close-up-end
+    close-up-requires
+    sub-w
+    slice-write-w
+    same-length
+    returns)
