@@ -11,7 +11,7 @@ use native.Mathlib.Omega.{arith}
 use lib.Dec.{T, leb, ltb, eqb, leb→le, ltb→lt, eqb→eq, nltb→le, T-not}
 use lib.ListN.{length, getD, set, take, drop, length-set, length-append, length-take, length-drop, length-map, List·getD-map}
 use lib.Seq.{map-set-same}
-use Rattle.lists.specs.Choice.{if_then_else_, choose, change, require, tested}
+use Rattle.lists.specs.Choice.{if_then_else_, choose, require, tested}
 use Rattle.lists.specs.Members.{Mem, mem-at, mem-split, All}
 use Rattle.lists.specs.Search.{Missed, search-ends}
 use Rattle.lists.specs.Search.{Found as Located}
@@ -24,8 +24,8 @@ use Rattle.protocol.specs.declared.Route.{Route}
 use Rattle.protocol.specs.declared.Route.the-variants.{Own, To}
 use Rattle.protocol.specs.declared.Decision.{Decision}
 use Rattle.protocol.specs.declared.Decision.the-variants.{Refuse, Reply, Send}
-use Rattle.protocol.specs.Record.{round, mostNodes, mostMessages, none, State, count, row, identifier, message, noMessage, outside, withRow, sent, taken, ticketed}
-use Rattle.protocol.specs.WellFormed.{limitA, limitB, limitHops, identifiers}
+use Rattle.protocol.specs.Record.{mostNodes, mostMessages, none, State, count, row, identifier, message, noMessage, outside, withRow, sent, taken, ticketed}
+use Rattle.protocol.specs.WellFormed.{namesNode, identifiers}
 use Rattle.protocol.specs.Fresh.{founder, alone, foundedBy, fresh}
 use Rattle.protocol.specs.Routing.{inRing, responsible, onward, route}
 use Rattle.protocol.specs.Kinds as kinds
@@ -60,14 +60,18 @@ Sound n q h (Reply v a) = RowForm n v × (v .identifier ≡ h .identifier)
 Sound n q h (Send v m a) = RowForm n v × (v .identifier ≡ h .identifier) × MessageForm n q m
 
 -- a message that is no LOOKUP
-note-form : {n q : ℕ} (k x y a : ℕ) → 2 ≤ k → k < 15 → x < n → y < n → a < limitA n k → limitB q k ≡ 1 → limitHops k ≡ 1 → MessageForm n q (note k x y a)
-note-form k x y a l u hx hy la lb lh =
-    record { low = omega arith; high = u; from = hx; to = hy; a = la; b = omega (arith, lb); hops = omega (arith, lh) }
-
--- the kinds that name a hub
-limit-names : (n : ℕ) → All (λ k. limitA n k ≡ n) (2 ∷ 4 ∷ 6 ∷ 11 ∷ [])
-unfolding limitA if_then_else_
-limit-names n = (refl, (refl, (refl, (refl, tt))))
+note-form : {n q : ℕ} (k x y a : ℕ) → 2 ≤ k → k < 15 → x < n → y < n → (T (namesNode k) → a < n) → (¬ T (namesNode k) → a ≡ 0)
+    → MessageForm n q (note k x y a)
+note-form k x y a l u hx hy node nil = record {
+  low = omega arith;
+  high = u;
+  from = hx;
+  to = hy;
+  node = λ t _. node t;
+  zero = λ f _. nil f;
+  lookup = λ e. absurd (omega arith);
+  plain = λ _. (refl, refl);
+}
 
 module _ (n q : ℕ) (h : Row) (r : RowForm n h) (m : Message) (ok : MessageForm n q m) where
   abbrev Well : Decision → Type 0
@@ -104,22 +108,28 @@ module _ (n q : ℕ) (h : Row) (r : RowForm n h) (m : Message) (ok : MessageForm
     flag = elim (r .flag) [ inl k ↦ inl k | inr k ↦ absurd (omega arith) ];
   }
 
-  -- a in a message that names a hub
-  names : limitA n (m .kind) ≡ n → m .a < n
-  names e = omega (arith, ok .a)
-
-  hops-form : m .kind ≡ 1 → grown m < 65536
-  unfolding limitHops if_then_else_ grown
-  hops-form e = go (rw e at (ok .hops))
-    where
-      go : m .hops < 65536 → grown m < 65536
-      go l = choose (λ z. z < 65536) (ltb (m .hops) 65535) (m .hops + 1) (m .hops) (λ t. omega (arith, ltb→lt (m .hops) 65535 t)) (λ _. l)
+  hops-form : m .kind ≡ 1 → grown m ≤ 65535
+  unfolding grown
+  hops-form e =
+      choose (λ z. z ≤ 65535) (ltb (m .hops) 65535) (m .hops + 1) (m .hops) (λ t. omega (arith, ltb→lt (m .hops) 65535 t)) (λ _. ok .lookup e .1)
 
   lookup-routed-sound : m .kind ≡ 1 → (z : Route) → Leads n z → Well (lookupRouted h m z)
-  unfolding lookupRouted limitA limitB limitHops if_then_else_
+  unfolding lookupRouted namesNode
   lookup-routed-sound e Own l = (r, refl)
-  lookup-routed-sound e (To z) l =
-      (r, refl, record { low = omega arith; high = omega arith; from = ok .to; to = l; a = rw e at (ok .a); b = rw e at (ok .b); hops = hops-form e })
+  lookup-routed-sound e (To z) l = (
+    r,
+    refl,
+    record {
+      low = omega arith;
+      high = omega arith;
+      from = ok .to;
+      to = l;
+      node = λ _ ne. absurd (ne refl);
+      zero = λ _ ne. absurd (ne refl);
+      lookup = λ _. (ok .lookup e .0, hops-form e);
+      plain = λ ne. absurd (ne refl);
+    },
+  )
 
   lookup-sound : (p : ℕ) → m .kind ≡ 1 → Well (kinds.lookup p h m)
   unfolding kinds.lookup
@@ -128,14 +138,14 @@ module _ (n q : ℕ) (h : Row) (r : RowForm n h) (m : Message) (ok : MessageForm
       (λ t. let b = r .linked (ring-states h t .0) in lookup-routed-sound e (route p h (m .from) (m .a)) (route-leads n p h (m .from) (m .a) (b .0) (b .1)))
 
   retried-sound : m .a < n → Well (kinds.joinRetried h m)
-  unfolding limitA limitB limitHops if_then_else_
-  retried-sound la = (r, refl, note-form 3 (m .to) (m .a) 0 (omega arith) (omega arith) (ok .to) la (omega arith) refl refl)
+  unfolding namesNode
+  retried-sound la = (r, refl, note-form 3 (m .to) (m .a) 0 (omega arith) (omega arith) (ok .to) la (λ t. absurd t) (λ _. refl))
 
   join-routed-sound : m .a < n → 2 ≤ h .state → (z : Route) → Leads n z → Well (joinRouted h m z)
-  unfolding joinRouted limitA limitB limitHops if_then_else_
+  unfolding joinRouted namesNode
   join-routed-sound la k Own l =
       choose Well (eqb (h .lock) 1) _ _ (λ _. retried-sound la)
-      (λ t. (enters t, refl, note-form 4 (m .to) (m .a) (h .pred) (omega arith) (omega arith) (ok .to) la (r .linked k .0) refl refl))
+      (λ t. (enters t, refl, note-form 4 (m .to) (m .a) (h .pred) (omega arith) (omega arith) (ok .to) la (λ _. (r .linked k .0)) (λ f. absurd (f tt))))
     where
       two : T (not (eqb (h .lock) 1)) → Dec (h .state ≡ 2) → h .state ≡ 2
       two t (yes e) = e
@@ -151,7 +161,7 @@ module _ (n q : ℕ) (h : Row) (r : RowForm n h) (m : Message) (ok : MessageForm
         taken = λ _ _. refl;
         flag = inr (refl, two t (ℕ-discrete (h .state) 2), refl, r .linked k .0);
       }
-  join-routed-sound la k (To z) l = (r, refl, note-form 2 (m .to) z (m .a) (omega arith) (omega arith) (ok .to) l la refl refl)
+  join-routed-sound la k (To z) l = (r, refl, note-form 2 (m .to) z (m .a) (omega arith) (omega arith) (ok .to) l (λ _. la) (λ f. absurd (f tt)))
 
   join-sound : (p : ℕ) (g : Row) → m .a < n → Well (kinds.join p h g m)
   unfolding kinds.join
@@ -177,7 +187,7 @@ module _ (n q : ℕ) (h : Row) (r : RowForm n h) (m : Message) (ok : MessageForm
       )
 
   join-point-sound : m .a < n → Well (kinds.joinPoint h m)
-  unfolding kinds.joinPoint limitA limitB limitHops if_then_else_
+  unfolding kinds.joinPoint namesNode
   join-point-sound la = if-else (eqb (h .state) 1) _ λ t.
       let e : h .state ≡ 1 = eqb→eq _ 1 t in (
         record {
@@ -190,17 +200,17 @@ module _ (n q : ℕ) (h : Row) (r : RowForm n h) (m : Message) (ok : MessageForm
           flag = inl (down (λ x. omega arith));
         },
         refl,
-        note-form 5 (m .to) (m .a) 0 (omega arith) (omega arith) (ok .to) la (omega arith) refl refl,
+        note-form 5 (m .to) (m .a) 0 (omega arith) (omega arith) (ok .to) la (λ t. absurd t) (λ _. refl),
       )
 
   new-succ-sound : Well (kinds.newSucc h m)
-  unfolding kinds.newSucc limitA limitB limitHops if_then_else_
+  unfolding kinds.newSucc namesNode
   new-succ-sound = if-else (responsible h) _ λ t.
       let w = responsible-states h t in
-      (turn (m .from) (ok .from) (w .0), refl, note-form 6 (m .to) (h .succ) (m .from) (omega arith) (omega arith) (ok .to) (r .linked (w .0) .1) (ok .from) refl refl)
+      (turn (m .from) (ok .from) (w .0), refl, note-form 6 (m .to) (h .succ) (m .from) (omega arith) (omega arith) (ok .to) (r .linked (w .0) .1) (λ _. (ok .from)) (λ f. absurd (f tt)))
 
   new-succ-ack-sound : m .a < n → Well (kinds.newSuccAck h m)
-  unfolding kinds.newSuccAck limitA limitB limitHops if_then_else_
+  unfolding kinds.newSuccAck namesNode
   new-succ-ack-sound la = if-else (eqb (h .flag) 1) _ λ t.
       let e : h .flag ≡ 1 = eqb→eq _ 1 t in (
         record {
@@ -213,7 +223,7 @@ module _ (n q : ℕ) (h : Row) (r : RowForm n h) (m : Message) (ok : MessageForm
           flag = inl (refl, refl);
         },
         refl,
-        note-form 7 (m .to) (m .a) 0 (omega arith) (omega arith) (ok .to) la (omega arith) refl refl,
+        note-form 7 (m .to) (m .a) 0 (omega arith) (omega arith) (ok .to) la (λ t. absurd t) (λ _. refl),
       )
 
   -- state 2, lock 1, flag 0: the lock is freed
@@ -224,11 +234,11 @@ module _ (n q : ℕ) (h : Row) (r : RowForm n h) (m : Message) (ok : MessageForm
       (loose st fl, refl)
 
   leave-req-sound : Well (kinds.leaveReq h m)
-  unfolding kinds.leaveReq limitA limitB limitHops if_then_else_
+  unfolding kinds.leaveReq namesNode
   leave-req-sound = if-else (inRing h) _ λ t.
       let w = ring-states h t in
       choose Well (eqb (h .lock) 1) _ _
-      (λ _. (r, refl, note-form 9 (m .to) (m .from) 0 (omega arith) (omega arith) (ok .to) (ok .from) (omega arith) refl refl))
+      (λ _. (r, refl, note-form 9 (m .to) (m .from) 0 (omega arith) (omega arith) (ok .to) (ok .from) (λ t. absurd t) (λ _. refl)))
       (λ _. (
         record {
           state = r .state;
@@ -240,7 +250,7 @@ module _ (n q : ℕ) (h : Row) (r : RowForm n h) (m : Message) (ok : MessageForm
           flag = elim (r .flag) [ inl k ↦ inl k | inr k ↦ inr (k .0, k .1, refl, k .3) ];
         },
         refl,
-        note-form 10 (m .to) (m .from) 0 (omega arith) (omega arith) (ok .to) (ok .from) (omega arith) refl refl,
+        note-form 10 (m .to) (m .from) 0 (omega arith) (omega arith) (ok .to) (ok .from) (λ t. absurd t) (λ _. refl),
       ))
 
   leave-retry-sound : Well (kinds.leaveRetry h m)
@@ -260,7 +270,7 @@ module _ (n q : ℕ) (h : Row) (r : RowForm n h) (m : Message) (ok : MessageForm
       )
 
   leave-grant-sound : Well (kinds.leaveGrant h m)
-  unfolding kinds.leaveGrant limitA limitB limitHops if_then_else_
+  unfolding kinds.leaveGrant namesNode
   leave-grant-sound = if-else (eqb (h .state) 3) _ λ t.
       let e : h .state ≡ 3 = eqb→eq _ 3 t in
       let b = r .linked (omega arith) in (
@@ -274,11 +284,11 @@ module _ (n q : ℕ) (h : Row) (r : RowForm n h) (m : Message) (ok : MessageForm
           flag = inl (down (λ x. omega arith));
         },
         refl,
-        note-form 11 (m .to) (m .from) (h .pred) (omega arith) (omega arith) (ok .to) (ok .from) (b .0) refl refl,
+        note-form 11 (m .to) (m .from) (h .pred) (omega arith) (omega arith) (ok .to) (ok .from) (λ _. (b .0)) (λ f. absurd (f tt)),
       )
 
   leave-point-sound : m .a < n → Well (kinds.leavePoint h m)
-  unfolding kinds.leavePoint limitA limitB limitHops if_then_else_
+  unfolding kinds.leavePoint namesNode
   leave-point-sound la = if-else (eqb (h .state) 2 && eqb (h .lock) 1) _ λ t.
       let e : h .state ≡ 2 = eqb→eq _ 2 (and-left (eqb (h .state) 2) (eqb (h .lock) 1) t) in (
         record {
@@ -291,17 +301,17 @@ module _ (n q : ℕ) (h : Row) (r : RowForm n h) (m : Message) (ok : MessageForm
           flag = r .flag;
         },
         refl,
-        note-form 12 (m .to) (m .a) 0 (omega arith) (omega arith) (ok .to) la (omega arith) refl refl,
+        note-form 12 (m .to) (m .a) 0 (omega arith) (omega arith) (ok .to) la (λ t. absurd t) (λ _. refl),
       )
 
   update-succ-sound : Well (kinds.updateSucc h m)
-  unfolding kinds.updateSucc limitA limitB limitHops if_then_else_
+  unfolding kinds.updateSucc namesNode
   update-succ-sound = if-else (responsible h) _ λ t.
       let w = responsible-states h t in
-      (turn (m .from) (ok .from) (w .0), refl, note-form 13 (m .to) (h .succ) 0 (omega arith) (omega arith) (ok .to) (r .linked (w .0) .1) (omega arith) refl refl)
+      (turn (m .from) (ok .from) (w .0), refl, note-form 13 (m .to) (h .succ) 0 (omega arith) (omega arith) (ok .to) (r .linked (w .0) .1) (λ t. absurd t) (λ _. refl))
 
   stop-forward-sound : Well (kinds.stopForward h m)
-  unfolding kinds.stopForward limitA limitB limitHops if_then_else_
+  unfolding kinds.stopForward namesNode
   stop-forward-sound = if-else (eqb (h .state) 4) _ λ t.
       let e : h .state ≡ 4 = eqb→eq _ 4 t in (
         record {
@@ -314,21 +324,21 @@ module _ (n q : ℕ) (h : Row) (r : RowForm n h) (m : Message) (ok : MessageForm
           flag = inl (down (λ x. omega arith) .0, refl);
         },
         refl,
-        note-form 14 (m .to) (h .succ) 0 (omega arith) (omega arith) (ok .to) (r .linked (omega arith) .1) (omega arith) refl refl,
+        note-form 14 (m .to) (h .succ) 0 (omega arith) (omega arith) (ok .to) (r .linked (omega arith) .1) (λ t. absurd t) (λ _. refl),
       )
 
   -- a message of a kind that names a hub
-  names-hub : (k : ℕ) → limitA n k ≡ n → m .kind ≡ k → m .a < n
-  names-hub k l e = omega (arith, ok .a, ap (limitA n) e)
+  names-hub : (k : ℕ) → T (namesNode k) → 2 ≤ k → m .kind ≡ k → m .a < n
+  names-hub k t l e = ok .node (subst (λ z. T (namesNode z)) (sym e) t) (λ z. omega arith)
 
   -- the match over the kinds
   pub handle-sound : (p : ℕ) (g : Row) → Well (handle p h g m)
-  unfolding handle kinds.joinDone kinds.leaveDone
+  unfolding handle kinds.joinDone kinds.leaveDone namesNode
   handle-sound p g =
-      by 1 _ _ (λ e. lookup-sound p e) (by 2 _ _ (λ e. join-sound p g (names-hub 2 (limit-names n .0) e)) (by 3 _ _ (λ e. join-retry-sound)
-      (by 4 _ _ (λ e. join-point-sound (names-hub 4 (limit-names n .1 .0) e)) (by 5 _ _ (λ e. new-succ-sound)
-      (by 6 _ _ (λ e. new-succ-ack-sound (names-hub 6 (limit-names n .1 .1 .0) e)) (by 7 _ _ (λ e. freed _) (by 8 _ _ (λ e. leave-req-sound)
-      (by 9 _ _ (λ e. leave-retry-sound) (by 10 _ _ (λ e. leave-grant-sound) (by 11 _ _ (λ e. leave-point-sound (names-hub 11 (limit-names n .1 .1 .1 .0) e))
+      by 1 _ _ (λ e. lookup-sound p e) (by 2 _ _ (λ e. join-sound p g (names-hub 2 tt (omega arith) e)) (by 3 _ _ (λ e. join-retry-sound)
+      (by 4 _ _ (λ e. join-point-sound (names-hub 4 tt (omega arith) e)) (by 5 _ _ (λ e. new-succ-sound)
+      (by 6 _ _ (λ e. new-succ-ack-sound (names-hub 6 tt (omega arith) e)) (by 7 _ _ (λ e. freed _) (by 8 _ _ (λ e. leave-req-sound)
+      (by 9 _ _ (λ e. leave-retry-sound) (by 10 _ _ (λ e. leave-grant-sound) (by 11 _ _ (λ e. leave-point-sound (names-hub 11 tt (omega arith) e))
       (by 12 _ _ (λ e. update-succ-sound) (by 13 _ _ (λ e. stop-forward-sound) (by 14 _ _ (λ e. freed _) tt)))))))))))))
     where
       by : (k : ℕ) (x y : Decision) → (m .kind ≡ k → Well x) → Well y → Well (if eqb (m .kind) k then x else y)
@@ -442,7 +452,7 @@ module _ (s : State) (f : Form s) where
   roomy t = ltb→lt (length (s .messages)) mostMessages t
 
   join-form : (x y : ℕ) → Leaves (step.join s x y)
-  unfolding step.join limitA limitB limitHops if_then_else_
+  unfolding step.join namesNode
   join-form x y = ask-yes _ _ _ λ t4. ask-yes _ _ _ λ t6. ask-yes _ _ _ λ t5. ask-yes _ _ _ λ t11.
       let lx : x < count s = ltb→lt x (count s) (and-left (ltb x (count s)) (ltb y (count s)) t4) in
       let ly : y < count s = ltb→lt y (count s) (and-right (ltb x (count s)) (ltb y (count s)) t4) in
@@ -459,11 +469,11 @@ module _ (s : State) (f : Form s) where
           flag = elim (r .flag) [ inl k ↦ inl k | inr k ↦ absurd (omega arith) ];
         },
         refl,
-        note-form 2 x y x (omega arith) (omega arith) lx ly lx refl refl,
+        note-form 2 x y x (omega arith) (omega arith) lx ly (λ _. lx) (λ f. absurd (f tt)),
       )
 
   leave-form : (x : ℕ) → Leaves (step.leave s x)
-  unfolding step.leave limitA limitB limitHops if_then_else_
+  unfolding step.leave namesNode
   leave-form x = ask-yes _ _ _ λ t4. ask-yes _ _ _ λ t5. ask-yes _ _ _ λ t7. ask-yes _ _ _ λ t8. ask-yes _ _ _ λ t11.
       let lx : x < count s = ltb→lt x (count s) t4 in
       let w = ring-states (row s x) t5 in
@@ -481,37 +491,46 @@ module _ (s : State) (f : Form s) where
           flag = elim (r .flag) [ inl k ↦ inl k | inr k ↦ absurd (omega (arith, k .2)) ];
         },
         refl,
-        note-form 8 x (row s x .succ) 0 (omega arith) (omega arith) lx (b .1) (omega arith) refl refl,
+        note-form 8 x (row s x .succ) 0 (omega arith) (omega arith) lx (b .1) (λ t. absurd t) (λ _. refl),
       )
 
   -- one question more asked
   more-asked : (m : Message) → MessageForm (count s) (s .asked) m → MessageForm (count s) (s .asked + 1) m
-  unfolding limitB
   more-asked m o = record {
     low = o .low;
     high = o .high;
     from = o .from;
     to = o .to;
-    a = o .a;
-    b = change (λ z. m .b < z) (eqb (m .kind) 1) (s .asked) 1 (s .asked + 1) 1 (λ l. omega arith) (λ l. l) (o .b);
-    hops = o .hops;
+    node = o .node;
+    zero = o .zero;
+    lookup = λ e. (omega (arith, o .lookup e .0), o .lookup e .1);
+    plain = o .plain;
   }
 
   ticketed-form : Form (ticketed s)
   ticketed-form = record { some = f .some; few = f .few; short = f .short; differ = f .differ; rows = f .rows; messages = λ m k. more-asked m (f .messages m k) }
 
-  asking-form : (x v : ℕ) → v < round → x < count s → (z : Route) → Leads (count s) z → Leaves (asking s x v z)
-  unfolding asking limitA limitB limitHops if_then_else_
-  asking-form x v lv lx Own l = leaves-accepted _ _ ticketed-form
-  asking-form x v lv lx (To z) l = ask-yes _ _ _ λ t11.
+  asking-form : (x v : ℕ) → x < count s → (z : Route) → Leads (count s) z → Leaves (asking s x v z)
+  unfolding asking namesNode
+  asking-form x v lx Own l = leaves-accepted _ _ ticketed-form
+  asking-form x v lx (To z) l = ask-yes _ _ _ λ t11.
       leaves-accepted _ _ (sent-form (ticketed s) _ ticketed-form (roomy t11)
-      (record { low = omega arith; high = omega arith; from = lx; to = l; a = lv; b = omega arith; hops = omega arith }))
+      (record {
+        low = omega arith;
+        high = omega arith;
+        from = lx;
+        to = l;
+        node = λ _ ne. absurd (ne refl);
+        zero = λ _ ne. absurd (ne refl);
+        lookup = λ _. omega arith;
+        plain = λ ne. absurd (ne refl);
+      }))
 
-  ask-form : (x v : ℕ) → v < round → Leaves (step.ask s x v)
+  ask-form : (x v : ℕ) → Leaves (step.ask s x v)
   unfolding step.ask
-  ask-form x v lv = ask-yes _ _ _ λ t4. ask-yes _ _ _ λ t5. ask-yes _ _ _ λ t12.
+  ask-form x v = ask-yes _ _ _ λ t4. ask-yes _ _ _ λ t5. ask-yes _ _ _ λ t12.
       let lx : x < count s = ltb→lt x (count s) t4 in
-      asking-form x v lv lx (onward (identifier s (row s x .pred)) (row s x) v)
+      asking-form x v lx (onward (identifier s (row s x .pred)) (row s x) v)
       (onward-leads (count s) _ (row s x) v (row-at f x lx .linked (ring-states (row s x) t5 .0) .1))
 
   deliver-form : (x y : ℕ) → Leaves (step.deliver s x y)
@@ -520,10 +539,10 @@ module _ (s : State) (f : Form s) where
       delivered-form s f (oldest s x y) (ltb→lt _ _ t9) y (link-to s x y (ltb→lt _ _ t9))
 
   -- An accepted step leaves the state well formed.
-  pub step-form : (operation x y : ℕ) → y < round → Leaves (step.step s operation x y)
+  pub step-form : (operation x y : ℕ) → Leaves (step.step s operation x y)
   unfolding step.step
-  step-form operation x y ly =
-      choose Leaves _ _ _ (λ _. ask-form x y ly) (λ _. choose Leaves _ _ _ (λ _. join-form x y) (λ _. choose Leaves _ _ _ (λ _. leave-form x)
+  step-form operation x y =
+      choose Leaves _ _ _ (λ _. ask-form x y) (λ _. choose Leaves _ _ _ (λ _. join-form x y) (λ _. choose Leaves _ _ _ (λ _. leave-form x)
       (λ _. choose Leaves _ _ _ (λ _. deliver-form x y) (λ _. leaves-refused 3))))
 
 -- A fresh ring is well formed.

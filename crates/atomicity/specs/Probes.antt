@@ -24,7 +24,7 @@ use Rattle.protocol.specs.Calls.{Called, written, freshCall}
 use Rattle.layout.specs.Words.{drop-words}
 use Rattle.layout.specs.Form.{Form}
 use Rattle.atomicity.specs.Preserved.{Leaves, leaves-form, step-form, fresh-form}
-use Rattle.atomicity.specs.Demand3.{Call, ThreeWords, called}
+use Rattle.atomicity.specs.Demand3.{Call, called}
 use Rattle.atomicity.specs.Record.{fresh-gives}
 use Rattle.atomicity.specs.Theorem.{call-is}
 
@@ -95,12 +95,12 @@ outcomesOf s [] = []
 outcomesOf s (c ∷ calls) = let r = step.step s (c .operation) (c .x) (c .y) in said r ∷ outcomesOf (left s r) calls
 
 module _ (tail : List ℕ) where
-  outcomes-are : (s : State) → Form s → (calls : List Call) → All ThreeWords calls → outcomes (words s ++ tail) calls ≡ outcomesOf s calls
+  outcomes-are : (s : State) → Form s → (calls : List Call) → outcomes (words s ++ tail) calls ≡ outcomesOf s calls
   unfolding outcomes outcomesOf written said left
-  outcomes-are s f [] w = refl
-  outcomes-are s f (c ∷ calls) w =
+  outcomes-are s f [] = refl
+  outcomes-are s f (c ∷ calls) =
       ap (λ z. z .outcome ∷ outcomes (z .slice) calls) (call-is s tail c f)
-      ∙ go (step.step s (c .operation) (c .x) (c .y)) (step-form s f (c .operation) (c .x) (c .y) (w .0 .y)) (λ s′ f′. outcomes-are s′ f′ calls (w .1))
+      ∙ go (step.step s (c .operation) (c .x) (c .y)) (step-form s f (c .operation) (c .x) (c .y)) (λ s′ f′. outcomes-are s′ f′ calls)
     where
       go : (r : Result) → Leaves r → ((s′ : State) → Form s′ → outcomes (words s′ ++ tail) calls ≡ outcomesOf s′ calls)
           → (written (words s ++ tail) r .outcome ∷ outcomes (written (words s ++ tail) r .slice) calls) ≡ (said r ∷ outcomesOf (left s r) calls)
@@ -112,7 +112,7 @@ module _ (tail : List ℕ) where
 abbrev Computes : Probe → Type 0
 Computes (interval a b v is) = within round a b v ≡ is
 Computes (ring ids calls text) =
-    T (leb 1 (length ids)) × T (leb (length ids) mostNodes) × T (distinct ids) × All ThreeWords calls × (quiet ∷ outcomesOf (fresh ids) calls ≡ text)
+    T (leb 1 (length ids)) × T (leb (length ids) mostNodes) × T (distinct ids) × (quiet ∷ outcomesOf (fresh ids) calls ≡ text)
 
 -- A ring's lines are those of its fresh state.
 passes : (p : Probe) → Computes p → Passes p
@@ -120,8 +120,8 @@ passes (interval a b v is) e = e
 passes (ring ids calls text) k = λ slice l.
     ap (λ z. z .outcome ∷ outcomes (z .slice) calls) (fresh-gives slice ids l (k .0) (k .1) (k .2))
     ∙ ap (λ z. quiet ∷ z)
-    (outcomes-are (drop recordSize slice) (fresh ids) (fresh-form ids (leb→le 1 (length ids) (k .0)) (leb→le (length ids) mostNodes (k .1)) (says-distinct ids .to (k .2))) calls (k .3))
-    ∙ k .4
+    (outcomes-are (drop recordSize slice) (fresh ids) (fresh-form ids (leb→le 1 (length ids) (k .0)) (leb→le (length ids) mostNodes (k .1)) (says-distinct ids .to (k .2))) calls)
+    ∙ k .3
 
 all-pass : (l : List Probe) → All Computes l → All Passes l
 all-pass [] k = tt
@@ -148,14 +148,14 @@ computed = (
                 (
                   refl,
                   (
-                    (tt, tt, tt, omega arith, refl),
+                    (tt, tt, tt, refl),
                     (
-                      (tt, tt, tt, omega arith, refl),
+                      (tt, tt, tt, refl),
                       (
-                        (tt, tt, tt, omega arith, refl),
+                        (tt, tt, tt, refl),
                         (
-                          (tt, tt, tt, omega arith, refl),
-                          ((tt, tt, tt, omega arith, refl), tt),
+                          (tt, tt, tt, refl),
+                          ((tt, tt, tt, refl), tt),
                         ),
                       ),
                     ),

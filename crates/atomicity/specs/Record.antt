@@ -13,7 +13,7 @@ use Rattle.protocol.specs.declared.Answer.{Answer}
 use Rattle.protocol.specs.declared.Answer.the-variants.{Quiet}
 use Rattle.protocol.specs.declared.Outcome.{Outcome}
 use Rattle.protocol.specs.declared.Outcome.the-variants.{Refused, Answered}
-use Rattle.protocol.specs.Record.{round, mostNodes, recordSize, State, read, words}
+use Rattle.protocol.specs.Record.{mostNodes, recordSize, State, read, words}
 use Rattle.protocol.specs.WellFormed.{wellFormed}
 use Rattle.protocol.specs.Fresh.{fresh}
 use Rattle.protocol.specs.Step.{Result, refused, accepted, step}
@@ -53,12 +53,12 @@ written-sound w (accepted a s) l f =
     )
 
 -- An accepted step leaves the record well formed.
-pub step-sound : (w : List ℕ) (operation x y : ℕ) → y < round → Sound w (stepCall w operation x y)
+pub step-sound : (w : List ℕ) (operation x y : ℕ) → Sound w (stepCall w operation x y)
 unfolding stepCall onRecord long
-step-sound w operation x y ly =
+step-sound w operation x y =
     tested (Sound w) (leb recordSize (length w)) _ _ (turned-sound w 1)
     (λ t. tested (Sound w) (wellFormed w) _ _ (turned-sound w 2)
-    (λ ok. written-sound w (step (read w) operation x y) (leb→le recordSize (length w) t) (step-form (read w) (form-of w ok) operation x y ly)))
+    (λ ok. written-sound w (step (read w) operation x y) (leb→le recordSize (length w) t) (step-form (read w) (form-of w ok) operation x y)))
 
 -- So does an accepted fresh.
 pub fresh-sound : (w ids : List ℕ) → Sound w (freshCall w ids)

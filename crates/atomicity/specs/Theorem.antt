@@ -164,7 +164,7 @@ module _ (ids tail : List ℕ) (small : (h : ℕ) → getD ids h 0 < round) (inj
   unfolding history recordAfter written afterOutcome ticketOf acceptedAsk
   goes s members ks f G k ly calls ih =
       subst (λ z. Reached members ks (s .asked) (record { call = k; outcome = z .outcome } ∷ history (z .slice) calls) (recordAfter (z .slice) calls)) (sym (call-is s tail k f))
-      (go (step s (k .operation) (k .x) (k .y)) (step-fine id small c inj s members ks G (k .operation) (k .x) (k .y) ly) (step-form s f (k .operation) (k .x) (k .y) ly))
+      (go (step s (k .operation) (k .x) (k .y)) (step-fine id small c inj s members ks G (k .operation) (k .x) (k .y) ly) (step-form s f (k .operation) (k .x) (k .y)))
     where
       go : (r : Result) → Fine id c members ks (s .asked + question (k .operation)) true r → Leaves r
           → Reached members ks (s .asked) (record { call = k; outcome = written (words s ++ tail) r .outcome } ∷ history (written (words s ++ tail) r .slice) calls) (recordAfter (written (words s ++ tail) r .slice) calls)

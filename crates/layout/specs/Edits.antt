@@ -51,11 +51,19 @@ module _ (s : State) (t : List ℕ) (hn : count s ≤ mostNodes) where
   pub push-is : (u : Message) → m < mostMessages → pushed (words s ++ t) m u ≡ words (sent s u) ++ t
   push-is u hm =
       let k : unusedMessageWords m - messageSize ≡ unusedMessageWords (m + 1) = omega arith in
-      rw (words-split s t, words-split (sent s u) t, flat-append messageWords (s .messages) (u ∷ []), length-append (s .messages) (u ∷ []),
+      rw (
+        words-split s t,
+        words-split (sent s u) t,
+        flat-append messageWords (s .messages) (u ∷ []),
+        length-append (s .messages) (u ∷ []),
         ← append-assoc (frontOf s) (flat messageWords (s .messages)) (messagePadding s ++ t),
         splice-at (frontOf s ++ flat messageWords (s .messages)) (messagePadding s ++ t) (messageWords u) (messageStart m)
-        (messages-length (s .rows) (s .asked) m (s .messages) hn),
-        drop-pad messageSize (unusedMessageWords m) t (omega arith), k, append-assoc (frontOf s), set-count)
+            (messages-length (s .rows) (s .asked) m (s .messages) hn),
+        drop-pad messageSize (unusedMessageWords m) t (omega arith),
+        k,
+        append-assoc (frontOf s),
+        set-count,
+      )
       (simp append-assoc)
 
   pub remove-is : (j : ℕ) → j < m → m ≤ mostMessages → removed (words s ++ t) m j ≡ words (taken s j) ++ t
@@ -71,9 +79,21 @@ module _ (s : State) (t : List ℕ) (hn : count s ≤ mostNodes) where
       let lb : messageSize * (m - 1 - j) ≡ length b = sym (length-flat messageWords messageSize message-size (drop (suc j) (s .messages)) ∙ ap (λ i. messageSize * i) ld) in
       let lt : length (take j (s .messages) ++ drop (suc j) (s .messages)) ≡ m - 1 = length-append (take j (s .messages)) (drop (suc j) (s .messages)) ∙ omega arith in
       let k : messageSize + unusedMessageWords m ≡ unusedMessageWords (m - 1) = omega arith in
-      rw (split-at-message s t j hj, drop-at (frontOf s ++ a) (u ++ (b ++ r)) (messageStart j) la, take-at (frontOf s ++ a) (u ++ (b ++ r)) (messageStart j) la,
-        lb, closed-seam messageSize u b r refl, append-assoc (frontOf s), set-count, words-split (taken s j) t, add-one, lt,
-        flat-append messageWords (take j (s .messages)) (drop (suc j) (s .messages)), ← k, ← replicate-append-replicate {A = ℕ} messageSize (unusedMessageWords m) 0)
+      rw (
+        split-at-message s t j hj,
+        drop-at (frontOf s ++ a) (u ++ (b ++ r)) (messageStart j) la,
+        take-at (frontOf s ++ a) (u ++ (b ++ r)) (messageStart j) la,
+        lb,
+        closed-seam messageSize u b r refl,
+        append-assoc (frontOf s),
+        set-count,
+        words-split (taken s j) t,
+        add-one,
+        lt,
+        flat-append messageWords (take j (s .messages)) (drop (suc j) (s .messages)),
+        ← k,
+        ← replicate-append-replicate {A = ℕ} messageSize (unusedMessageWords m) 0,
+      )
       (simp append-assoc)
 
 -- One question more asked.

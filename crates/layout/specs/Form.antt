@@ -10,11 +10,11 @@ use lib.Dec.{T, leb, ltb, eqb}
 use lib.ListN.{length, getD, take, drop, replicate, length-append}
 use Rattle.lists.specs.Choice.{if_then_else_}
 use Rattle.lists.specs.Members.{Mem, mem-at}
-use Rattle.lists.specs.Tests.{and-left, and-right, and-both, Says, says-and, says-if, says-le, says-lt, says-eq, says-as, every, says-every, distinct, Distinct, says-distinct, →eqb}
+use Rattle.lists.specs.Tests.{and-left, and-right, and-both, Says, says-and, says-or, says-if, says-so, says-le, says-lt, says-eq, says-as, every, says-every, distinct, Distinct, says-distinct, →eqb}
 use Rattle.protocol.specs.declared.Row.{Row}
 use Rattle.protocol.specs.declared.Message.{Message}
 use Rattle.protocol.specs.Record.{form, mostNodes, mostMessages, rowSize, messageSize, recordSize, unusedRowWords, unusedMessageWords, none, State, count, countIn, messagesIn, row, read, words, outside}
-use Rattle.protocol.specs.WellFormed.{pointersOk, lockOk, flagOk, rowOk, limitA, limitB, limitHops, messageOk, identifiers, formed, headerOk, unusedRows, unusedMessages, unusedOk, wellFormed}
+use Rattle.protocol.specs.WellFormed.{pointersOk, lockOk, flagOk, rowOk, namesNode, aOk, bOk, hopsOk, messageOk, identifiers, formed, headerOk, unusedRows, unusedMessages, unusedOk, wellFormed}
 use Rattle.layout.specs.Words.{Tidy, read-words, words-read, count-read, messages-read, form-read, unused-rows-read, unused-messages-read, length-words, count-of-read, messages-of-read}
 
 -- a row, in a ring of n hubs
@@ -106,26 +106,57 @@ pub record MessageForm (n asked : ℕ) (m : Message) : Type 0 where
   pub high : m .kind < 15
   pub from : m .from < n
   pub to : m .to < n
-  pub a : m .a < limitA n (m .kind)
-  pub b : m .b < limitB asked (m .kind)
-  pub hops : m .hops < limitHops (m .kind)
+  pub node : T (namesNode (m .kind)) → m .kind ≢ 1 → m .a < n
+  pub zero : ¬ T (namesNode (m .kind)) → m .kind ≢ 1 → m .a ≡ 0
+  pub lookup : m .kind ≡ 1 → (m .b < asked) × (m .hops ≤ 65535)
+  pub plain : m .kind ≢ 1 → (m .b ≡ 0) × (m .hops ≡ 0)
+
+-- the tests of a message's fields, each with what it says
+abbrev FieldA : ℕ → Message → Type 0
+FieldA n m = (m .kind ≡ 1) ⊎ ((T (namesNode (m .kind)) → m .a < n) × (¬ T (namesNode (m .kind)) → m .a ≡ 0))
+
+says-a : (n : ℕ) (m : Message) → Says (aOk n m) (FieldA n m)
+unfolding aOk
+says-a n m = says-or (says-eq (m .kind) 1) (says-if (says-so (namesNode (m .kind))) (says-lt (m .a) n) (says-eq (m .a) 0))
+
+abbrev FieldB : ℕ → Message → Type 0
+FieldB asked m = (m .kind ≡ 1 → m .b < asked) × (m .kind ≢ 1 → m .b ≡ 0)
+
+says-b : (asked : ℕ) (m : Message) → Says (bOk asked m) (FieldB asked m)
+unfolding bOk
+says-b asked m = says-if (says-eq (m .kind) 1) (says-lt (m .b) asked) (says-eq (m .b) 0)
+
+abbrev FieldHops : Message → Type 0
+FieldHops m = (m .kind ≡ 1 → m .hops ≤ 65535) × (m .kind ≢ 1 → m .hops ≡ 0)
+
+says-hops : (m : Message) → Says (hopsOk m) (FieldHops m)
+unfolding hopsOk
+says-hops m = says-if (says-eq (m .kind) 1) (says-le (m .hops) 65535) (says-eq (m .hops) 0)
 
 pub says-message : (n asked : ℕ) (m : Message) → Says (messageOk n asked m) (MessageForm n asked m)
 unfolding messageOk
 says-message n asked m =
     says-as
     (says-and (says-and (says-and (says-and (says-and (says-and (says-le 1 (m .kind)) (says-lt (m .kind) 15)) (says-lt (m .from) n)) (says-lt (m .to) n))
-    (says-lt (m .a) (limitA n (m .kind)))) (says-lt (m .b) (limitB asked (m .kind)))) (says-lt (m .hops) (limitHops (m .kind))))
+    (says-a n m)) (says-b asked m)) (says-hops m))
     (λ k. record {
       low = k .0 .0 .0 .0 .0 .0;
       high = k .0 .0 .0 .0 .0 .1;
       from = k .0 .0 .0 .0 .1;
       to = k .0 .0 .0 .1;
-      a = k .0 .0 .1;
-      b = k .0 .1;
-      hops = k .1;
+      node = λ t ne. elim (k .0 .0 .1) [ inl e ↦ absurd (ne e) | inr a ↦ a .0 t ];
+      zero = λ f ne. elim (k .0 .0 .1) [ inl e ↦ absurd (ne e) | inr a ↦ a .1 f ];
+      lookup = λ e. (k .0 .1 .0 e, k .1 .0 e);
+      plain = λ ne. (k .0 .1 .1 ne, k .1 .1 ne);
     })
-    (λ r. ((((((r .low, r .high), r .from), r .to), r .a), r .b), r .hops))
+    (λ r. (
+      (((((r .low, r .high), r .from), r .to), field-a r (ℕ-discrete (m .kind) 1)), ((λ e. r .lookup e .0), λ ne. r .plain ne .0)),
+      ((λ e. r .lookup e .1), λ ne. r .plain ne .1),
+    ))
+  where
+    field-a : MessageForm n asked m → Dec (m .kind ≡ 1) → FieldA n m
+    field-a r (yes e) = inl e
+    field-a r (no ne) = inr ((λ t. r .node t ne), λ f. r .zero f ne)
 
 -- a state
 pub record Form (s : State) : Type 0 where

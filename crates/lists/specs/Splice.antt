@@ -81,5 +81,14 @@ drop-pad k n t h =
 pub closed-seam : (g : ℕ) (x b r : List ℕ) → length x ≡ g → closed g (x ++ (b ++ r)) (length b) ≡ b ++ (replicate g 0 ++ r)
 unfolding closed shifted
 closed-seam g x b r e =
-    rw (drop-at x (b ++ r) g e, take-append-seam, splice-at b (drop (length b) (x ++ (b ++ r))) (replicate g 0) (length b) refl,
-      length-replicate, drop-drop, add-comm (length b) g, ← drop-drop, drop-at x (b ++ r) g e, drop-append-seam)
+    rw (
+      drop-at x (b ++ r) g e,
+      take-append-seam,
+      splice-at b (drop (length b) (x ++ (b ++ r))) (replicate g 0) (length b) refl,
+      length-replicate,
+      drop-drop,
+      add-comm (length b) g,
+      ← drop-drop,
+      drop-at x (b ++ r) g e,
+      drop-append-seam,
+    )

@@ -64,6 +64,9 @@ says-if {a} {b} {c} {P} {Q} {R} p q r = go a p
     go true s = record { to = λ t. ((λ x. q .to t), λ n. absurd (n (s .to tt))); fro = λ k. q .fro (k .0 (s .to tt)) }
     go false s = record { to = λ t. ((λ x. absurd (s .fro x)), λ n. r .to t); fro = λ k. r .fro (k .1 (s .fro)) }
 
+pub says-so : (a : Bool) → Says a (T a)
+says-so a = record { to = λ t. t; fro = λ t. t }
+
 pub says-le : (m n : ℕ) → Says (leb m n) (m ≤ n)
 says-le m n = record { to = leb→le m n; fro = le→leb m n }
 

@@ -9,7 +9,7 @@ use Rattle.lists.specs.Tests.{every, distinct}
 use Rattle.protocol.specs.declared.Row.{Row}
 use Rattle.protocol.specs.declared.Message.{Message}
 use Rattle.protocol.specs.Names.{LOOKUP, JOIN, JOINPOINT, NEWSUCCACK, LEAVEPOINT}
-use Rattle.protocol.specs.Record.{round, form, mostNodes, mostMessages, unusedRowWords, unusedMessageWords, rowStart, messageStart, none, State, count, countIn, messagesIn, read}
+use Rattle.protocol.specs.Record.{form, mostNodes, mostMessages, unusedRowWords, unusedMessageWords, rowStart, messageStart, none, State, count, countIn, messagesIn, read}
 
 -- 'States: 0 .. 4'; 'states 0 and 1 have pred and succ none, states 2 to 4 have both below n'
 unfoldable pub pointersOk : ℕ → Row → Bool
@@ -28,22 +28,24 @@ flagOk n h =
 unfoldable pub rowOk : ℕ → Row → Bool
 rowOk n h = pointersOk n h && lockOk h && flagOk n h
 
--- 'LOOKUP has any a, b below asked and hops at most 65535; JOIN, JOINPOINT, NEWSUCCACK and LEAVEPOINT have a below n; other
--- message fields are 0': what each field of a message of kind k is below.
-unfoldable pub limitA : ℕ → ℕ → ℕ
-limitA n k = if eqb k LOOKUP then round else if eqb k JOIN || eqb k JOINPOINT || eqb k NEWSUCCACK || eqb k LEAVEPOINT then n else 1
+-- 'LOOKUP has any a ..; JOIN, JOINPOINT, NEWSUCCACK and LEAVEPOINT have a below n; other message fields are 0'
+unfoldable pub namesNode : ℕ → Bool
+namesNode k = eqb k JOIN || eqb k JOINPOINT || eqb k NEWSUCCACK || eqb k LEAVEPOINT
 
-unfoldable pub limitB : ℕ → ℕ → ℕ
-limitB asked k = if eqb k LOOKUP then asked else 1
+unfoldable pub aOk : ℕ → Message → Bool
+aOk n m = eqb (m .kind) LOOKUP || (if namesNode (m .kind) then ltb (m .a) n else eqb (m .a) 0)
 
-unfoldable pub limitHops : ℕ → ℕ
-limitHops k = if eqb k LOOKUP then 65536 else 1
+-- 'LOOKUP has .. b below asked and hops at most 65535; .. other message fields are 0'
+unfoldable pub bOk : ℕ → Message → Bool
+bOk asked m = if eqb (m .kind) LOOKUP then ltb (m .b) asked else eqb (m .b) 0
+
+unfoldable pub hopsOk : Message → Bool
+hopsOk m = if eqb (m .kind) LOOKUP then leb (m .hops) 65535 else eqb (m .hops) 0
 
 -- 'kinds 1 to 14; from and to below n'
 unfoldable pub messageOk : ℕ → ℕ → Message → Bool
 messageOk n asked m =
-    leb 1 (m .kind) && ltb (m .kind) 15 && ltb (m .from) n && ltb (m .to) n
-    && ltb (m .a) (limitA n (m .kind)) && ltb (m .b) (limitB asked (m .kind)) && ltb (m .hops) (limitHops (m .kind))
+    leb 1 (m .kind) && ltb (m .kind) 15 && ltb (m .from) n && ltb (m .to) n && aOk n m && bOk asked m && hopsOk m
 
 abbrev pub identifiers : State → List ℕ
 identifiers s = map (λ h. h .identifier) (s .rows)

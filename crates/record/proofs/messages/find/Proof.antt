@@ -5,7 +5,6 @@ use mathlib.Core.Bool.{true, false}
 use Prim.Native.Nat.{_≤_, _-_}
 use native.Mathlib.Omega.{arith}
 use Rattle.lists.specs.Search.{first, first-none, first-more, first-found}
-
 use Rattle.protocol.specs.Record.{read, messagesIn}
 use Rattle.protocol.specs.Step.{onLink}
 use Rattle.record.proofs.messages.find.Statement.{statement}
@@ -70,7 +69,7 @@ both-requires c κs = search needs
 
 -- src/messages.rt:36:13
 returns : tie.Need-returns Inv-loop μ-loop
-returns c = 
+returns c =
     let a = c .before .before .before .before .before .before .before .before .args in
     let l = c .before .before .before .before .before .loop in
     let w = a .w .now in
@@ -86,7 +85,7 @@ loop-less c = search needs
 
 -- src/messages.rt:33:5
 loop-again : tie.Need-loop-again Inv-loop μ-loop
-loop-again c = 
+loop-again c =
     let a = c .before .before .before .before .before .before .before .before .args in
     let l = c .before .before .before .before .before .loop in
     let w = a .w .now in
@@ -94,7 +93,7 @@ loop-again c =
 
 -- src/messages.rt:27:1
 returns-2 : tie.Need-returns-2 Inv-loop μ-loop
-returns-2 c = 
+returns-2 c =
     let a = c .before .before .before .before .args in
     let w = a .w .now in
     let e : c .before .loop .j ≡ messagesIn w = omega arith in
