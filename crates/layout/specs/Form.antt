@@ -182,7 +182,7 @@ says-formed s =
 abbrev Header : List ℕ → Type 0
 Header w = (((getD w 0 0 ≡ form) × (1 ≤ countIn w)) × (countIn w ≤ mostNodes)) × (messagesIn w ≤ mostMessages)
 
-says-header : (w : List ℕ) → Says (headerOk w) (Header w)
+pub says-header : (w : List ℕ) → Says (headerOk w) (Header w)
 unfolding headerOk
 says-header w =
     says-and (says-and (says-and (says-eq (getD w 0 0) form) (says-le 1 (countIn w))) (says-le (countIn w) mostNodes)) (says-le (messagesIn w) mostMessages)

@@ -4,3 +4,4 @@ pub mod Members
 pub mod Search
 pub mod Blocks
 pub mod Splice
+pub mod Merge

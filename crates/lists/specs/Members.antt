@@ -1,11 +1,12 @@
 -- Membership, and counting in lists of numbers. Assumes nothing.
-use mathlib.Core.Path.{_≡_, refl, sym, ap, subst}
+use mathlib.Core.Path.{_≡_, refl, sym, _∙_, ap, subst}
 use mathlib.Core.Logic.{_⊎_, inl, inr, _≢_}
 use mathlib.Core.List.{List, [], _∷_, _++_}
 use Prim.Native.Nat.{ℕ, zero, suc, _+_, _≤_, _<_}
 use native.Mathlib.Decide.{ℕ-discrete}
 use native.Mathlib.Omega.{arith}
-use lib.ListN.{length, getD}
+use lib.ListN.{length, getD, set}
+use lib.Seq.{getD-set-same, getD-set-other}
 
 module _ {A : Type 0} where
   abbrev pub Mem : A → List A → Type 0
@@ -133,3 +134,12 @@ module _ {A : Type 0} where
   place x (y ∷ l) d (inl e) = (0, omega arith, sym e)
   place x (y ∷ l) d (inr k) = let r = place x l d k in (suc (r .0), omega (arith, r .1), r .2)
   place x [] d k = absurd k
+
+  -- one place more is filled: what g says holds below i, and is stored at i
+  pub filled : (l : List A) (i : ℕ) (v d : A) (g : ℕ → A) → i < length l → v ≡ g i → ((k : ℕ) → k < i → getD l k d ≡ g k)
+      → (k : ℕ) → k < i + 1 → getD (set l i v) k d ≡ g k
+  filled l i v d g h e f k u = go (ℕ-discrete k i)
+    where
+      go : Dec (k ≡ i) → getD (set l i v) k d ≡ g k
+      go (yes q) = ap (λ z. getD (set l i v) z d) q ∙ getD-set-same l i v d h ∙ e ∙ ap g (sym q)
+      go (no q) = getD-set-other l i k v d q ∙ f k (omega arith)

@@ -82,6 +82,16 @@ says-not {a} p = record { to = λ t x. T-not a t (p .fro x); fro = λ f. not-T a
 pub says-as : {a : Bool} {P Q : Type 0} → Says a P → (P → Q) → (Q → P) → Says a Q
 says-as p f g = record { to = λ t. f (p .to t); fro = λ x. p .fro (g x) }
 
+-- two tests that say the same are the same
+pub says-same : {a b : Bool} {P : Type 0} → Says a P → Says b P → a ≡ b
+says-same {a} {b} {P} p q = go a b (λ t. q .fro (p .to t)) (λ t. p .fro (q .to t))
+  where
+    go : (a b : Bool) → (T a → T b) → (T b → T a) → a ≡ b
+    go true true f g = refl
+    go true false f g = absurd (f tt)
+    go false true f g = absurd (g tt)
+    go false false f g = refl
+
 -- every element passes
 unfoldable pub every : {A : Type 0} → (A → Bool) → List A → Bool
 every f [] = true

@@ -4,40 +4,28 @@ use Rattle.protocol.specs.Record.{messageSize, messageWords, noMessage}
 use borrow.Author.Needs.{needs}
 use Rattle.record.proofs.messages.close_up.Statement.{statement}
 use Rattle.record.proofs.messages.close_up.Tie as tie
-use Rattle.record.proofs.messages.close_up.Reads as reads
-use Rattle.record.proofs.messages.close_up.Lts as lts
-use Rattle.record.proofs.messages.shift.Reads as shift-reads
-use Rattle.record.proofs.messages.write_message.Reads as write-message-reads
 
--- src/messages.rt:83:5
 shift-requires : tie.Need-shift-requires
 shift-requires c κs = search needs
 
--- src/messages.rt:85:9
 mul-write-message : tie.Need-mul-write-message
 mul-write-message c = search needs
 
--- src/messages.rt:85:9
 sub-write-message : tie.Need-sub-write-message
 sub-write-message c = search needs
 
--- src/messages.rt:85:9
 part-write-message-start : tie.Need-part-write-message-start
 part-write-message-start c = search needs
 
--- src/messages.rt:85:9
 part-write-message-end : tie.Need-part-write-message-end
 part-write-message-end c = search needs
 
--- src/messages.rt:84:5
 write-message-requires : tie.Need-write-message-requires
 write-message-requires c κs = search needs
 
--- src/messages.rt:79:1
 same-length : tie.Need-same-length
 same-length c = search needs
 
--- src/messages.rt:79:1
 returns : tie.Need-returns
 unfolding closed
 returns c = let a = c .before .before .before .before .before .before .before .before .before .args in

@@ -1,7 +1,6 @@
 use Rattle.layout.specs.Words.{on-link-read, oldest-read}
 use borrow.Author.Needs.{needs}
-use mathlib.Core.Path.{_≡_, sym, ap, _∙_}
-use mathlib.Core.Bool.{true, false}
+use mathlib.Core.Path.{_≡_, sym, _∙_}
 use Prim.Native.Nat.{_≤_, _-_}
 use native.Mathlib.Omega.{arith}
 use Rattle.lists.specs.Search.{first, first-none, first-more, first-found}
@@ -9,9 +8,6 @@ use Rattle.protocol.specs.Record.{read, messagesIn}
 use Rattle.protocol.specs.Step.{onLink}
 use Rattle.record.proofs.messages.find.Statement.{statement}
 use Rattle.record.proofs.messages.find.Tie as tie
-use Rattle.record.proofs.messages.find.Reads as reads
-use Rattle.record.proofs.messages.find.Lts as lts
-use Rattle.lists.proofs.both.Reads as both-reads
 
 abbrev Inv-loop : tie.InvT-loop
 Inv-loop w x y m j₀ j = (j ≤ m) × (first (onLink (read w) x y) j ≡ j)
@@ -19,55 +15,42 @@ Inv-loop w x y m j₀ j = (j ≤ m) × (first (onLink (read w) x y) j ≡ j)
 abbrev μ-loop : tie.MeasureT-loop
 μ-loop w x y m j₀ j = m - j
 
--- src/messages.rt:31:13
 shared-slice-read-m : tie.Need-shared-slice-read-m Inv-loop μ-loop
 shared-slice-read-m c = search needs
 
--- src/messages.rt:33:5
 loop-holds : tie.Need-loop-holds Inv-loop μ-loop
 loop-holds c = (search needs, first-none _)
 
--- src/messages.rt:34:29
 cast-at : tie.Need-cast-at Inv-loop μ-loop
 cast-at c = search needs
 
--- src/messages.rt:34:24
 mul-at : tie.Need-mul-at Inv-loop μ-loop
 mul-at c = search needs
 
--- src/messages.rt:34:18
 add-at : tie.Need-add-at Inv-loop μ-loop
 add-at c = search needs
 
--- src/messages.rt:35:26
 add-both : tie.Need-add-both Inv-loop μ-loop
 add-both c = search needs
 
--- src/messages.rt:35:24
 mul-both : tie.Need-mul-both Inv-loop μ-loop
 mul-both c = search needs
 
--- src/messages.rt:35:24
 shared-slice-read-both : tie.Need-shared-slice-read-both Inv-loop μ-loop
 shared-slice-read-both c = search needs
 
--- src/messages.rt:35:42
 add-both-2 : tie.Need-add-both-2 Inv-loop μ-loop
 add-both-2 c = search needs
 
--- src/messages.rt:35:40
 mul-both-2 : tie.Need-mul-both-2 Inv-loop μ-loop
 mul-both-2 c = search needs
 
--- src/messages.rt:35:40
 shared-slice-read-both-2 : tie.Need-shared-slice-read-both-2 Inv-loop μ-loop
 shared-slice-read-both-2 c = search needs
 
--- src/messages.rt:35:12
 both-requires : tie.Need-both-requires Inv-loop μ-loop
 both-requires c κs = search needs
 
--- src/messages.rt:36:13
 returns : tie.Need-returns Inv-loop μ-loop
 returns c =
     let a = c .before .before .before .before .before .before .before .before .args in
@@ -75,15 +58,12 @@ returns c =
     let w = a .w .now in
     sym (oldest-read w (a .x) (a .y) ∙ first-found (onLink (read w) (a .x) (a .y)) (messagesIn w) (l .j) (l .inv .1) (on-link-read w (a .x) (a .y) (l .j) (search needs) ∙ sym (c .before .both .ensures) ∙ c .if1 .taken) (search needs))
 
--- src/messages.rt:38:9
 add-j : tie.Need-add-j Inv-loop μ-loop
 add-j c = search needs
 
--- src/messages.rt:33:5
 loop-less : tie.Need-loop-less Inv-loop μ-loop
 loop-less c = search needs
 
--- src/messages.rt:33:5
 loop-again : tie.Need-loop-again Inv-loop μ-loop
 loop-again c =
     let a = c .before .before .before .before .before .before .before .before .args in
@@ -91,7 +71,6 @@ loop-again c =
     let w = a .w .now in
     (search needs, first-more (onLink (read w) (a .x) (a .y)) (l .j) (l .inv .1) (on-link-read w (a .x) (a .y) (l .j) (search needs) ∙ sym (c .before .both .ensures) ∙ c .if1 .left))
 
--- src/messages.rt:27:1
 returns-2 : tie.Need-returns-2 Inv-loop μ-loop
 returns-2 c =
     let a = c .before .before .before .before .args in

@@ -4,67 +4,49 @@ use Rattle.layout.specs.Edits.{removed}
 use borrow.Author.Needs.{needs}
 use Rattle.record.proofs.messages.remove.Statement.{statement}
 use Rattle.record.proofs.messages.remove.Tie as tie
-use Rattle.record.proofs.messages.remove.Reads as reads
-use Rattle.record.proofs.messages.remove.Lts as lts
-use Rattle.record.proofs.messages.close_up.Reads as close-up-reads
 
--- src/messages.rt:102:20
 mul-at : tie.Need-mul-at
 mul-at c = search needs
 
--- src/messages.rt:102:14
 add-at : tie.Need-add-at
 add-at c = search needs
 
--- src/messages.rt:103:21
 sub-len : tie.Need-sub-len
 sub-len c = search needs
 
--- src/messages.rt:103:21
 sub-len-2 : tie.Need-sub-len-2
 sub-len-2 c = search needs
 
--- src/messages.rt:103:20
 cast-len : tie.Need-cast-len
 cast-len c = search needs
 
--- src/messages.rt:103:15
 mul-len : tie.Need-mul-len
 mul-len c = search needs
 
--- src/messages.rt:104:14
 mul-close-up : tie.Need-mul-close-up
 mul-close-up c = search needs
 
--- src/messages.rt:104:14
 sub-close-up : tie.Need-sub-close-up
 sub-close-up c = search needs
 
--- src/messages.rt:104:14
 part-close-up-start : tie.Need-part-close-up-start
 part-close-up-start c = search needs
 
--- src/messages.rt:104:14
 part-close-up-end : tie.Need-part-close-up-end
 part-close-up-end c = search needs
 
--- src/messages.rt:104:5
 close-up-requires : tie.Need-close-up-requires
 close-up-requires c κs = search needs
 
--- src/messages.rt:105:12
 sub-w : tie.Need-sub-w
 sub-w c = search needs
 
--- src/messages.rt:105:5
 slice-write-w : tie.Need-slice-write-w
 slice-write-w c = search needs
 
--- src/messages.rt:98:1
 same-length : tie.Need-same-length
 same-length c = search needs
 
--- src/messages.rt:98:1
 returns : tie.Need-returns
 unfolding removed
 returns c = let a = c .before .before .before .before .before .args in

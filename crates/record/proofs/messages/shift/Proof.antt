@@ -7,8 +7,6 @@ use Rattle.lists.specs.Splice.{shifted, shifted-none, shifted-read, shifted-ste
 use Rattle.protocol.specs.Record.{messageSize}
 use Rattle.record.proofs.messages.shift.Statement.{statement}
 use Rattle.record.proofs.messages.shift.Tie as tie
-use Rattle.record.proofs.messages.shift.Reads as reads
-use Rattle.record.proofs.messages.shift.Lts as lts
 
 abbrev Inv-loop : tie.InvT-loop
 Inv-loop part₀ n k₀ part k = (k ≤ n) × (part ≡ shifted messageSize part₀ k) × (length part ≡ length part₀)
@@ -16,39 +14,30 @@ Inv-loop part₀ n k₀ part k = (k ≤ n) × (part ≡ shifted messageSize part
 abbrev μ-loop : tie.MeasureT-loop
 μ-loop part₀ n k₀ part k = n - k
 
--- src/messages.rt:72:5
 loop-holds : tie.Need-loop-holds Inv-loop μ-loop
 loop-holds c = (omega arith, shifted-none messageSize (c .args .part .now), refl)
 
--- src/messages.rt:73:24
 add-part : tie.Need-add-part Inv-loop μ-loop
 add-part c = search needs
 
--- src/messages.rt:73:19
 mul-part : tie.Need-mul-part Inv-loop μ-loop
 mul-part c = search needs
 
--- src/messages.rt:73:19
 slice-read-part : tie.Need-slice-read-part Inv-loop μ-loop
 slice-read-part c = search needs
 
--- src/messages.rt:73:9
 mul-part-2 : tie.Need-mul-part-2 Inv-loop μ-loop
 mul-part-2 c = search needs
 
--- src/messages.rt:73:9
 slice-write-part : tie.Need-slice-write-part Inv-loop μ-loop
 slice-write-part c = search needs
 
--- src/messages.rt:74:9
 add-k : tie.Need-add-k Inv-loop μ-loop
 add-k c = search needs
 
--- src/messages.rt:72:5
 loop-less : tie.Need-loop-less Inv-loop μ-loop
 loop-less c = search needs
 
--- src/messages.rt:72:5
 loop-again : tie.Need-loop-again Inv-loop μ-loop
 loop-again c = let p₀ = c .before .before .before .args .part .now in
     let k = c .before .before .loop .k in
@@ -56,11 +45,9 @@ loop-again c = let p₀ = c .before .before .before .args .part .now in
     let h : k + messageSize < length p₀ = omega arith in
     (omega arith, rw (e, shifted-read messageSize p₀ k h, shifted-step messageSize p₀ k h), simp length-set (omega arith))
 
--- src/messages.rt:67:1
 same-length : tie.Need-same-length Inv-loop μ-loop
 same-length c = search needs
 
--- src/messages.rt:67:1
 returns : tie.Need-returns Inv-loop μ-loop
 returns c = let e : c .before .loop .k ≡ c .before .before .args .n = omega arith in
     rw (← e) (c .before .loop .inv .1)

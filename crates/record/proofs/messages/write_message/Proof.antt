@@ -3,38 +3,28 @@ use lib.ListN.{length-set}
 use borrow.Author.Needs.{needs}
 use Rattle.record.proofs.messages.write_message.Statement.{statement}
 use Rattle.record.proofs.messages.write_message.Tie as tie
-use Rattle.record.proofs.messages.write_message.Reads as reads
-use Rattle.record.proofs.messages.write_message.Lts as lts
 
--- src/messages.rt:48:5
 slice-write-part : tie.Need-slice-write-part
 slice-write-part c = search needs
 
--- src/messages.rt:49:5
 slice-write-part-2 : tie.Need-slice-write-part-2
 slice-write-part-2 c = simp length-set (omega arith)
 
--- src/messages.rt:50:5
 slice-write-part-3 : tie.Need-slice-write-part-3
 slice-write-part-3 c = simp length-set (omega arith)
 
--- src/messages.rt:51:5
 slice-write-part-4 : tie.Need-slice-write-part-4
 slice-write-part-4 c = simp length-set (omega arith)
 
--- src/messages.rt:52:5
 slice-write-part-5 : tie.Need-slice-write-part-5
 slice-write-part-5 c = simp length-set (omega arith)
 
--- src/messages.rt:53:5
 slice-write-part-6 : tie.Need-slice-write-part-6
 slice-write-part-6 c = search needs
 
--- src/messages.rt:44:1
 same-length : tie.Need-same-length
 same-length c = search needs
 
--- src/messages.rt:44:1
 returns : tie.Need-returns
 returns c = search needs
 

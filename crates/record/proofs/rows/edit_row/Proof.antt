@@ -3,42 +3,31 @@ use lib.ListN.{length-set}
 use borrow.Author.Needs.{needs}
 use Rattle.record.proofs.rows.edit_row.Statement.{statement}
 use Rattle.record.proofs.rows.edit_row.Tie as tie
-use Rattle.record.proofs.rows.edit_row.Reads as reads
-use Rattle.record.proofs.rows.edit_row.Lts as lts
 
--- src/rows.rt:49:5
 slice-write-part : tie.Need-slice-write-part
 slice-write-part c = search needs
 
--- src/rows.rt:50:5
 slice-write-part-2 : tie.Need-slice-write-part-2
 slice-write-part-2 c = simp length-set (omega arith)
 
--- src/rows.rt:51:5
 slice-write-part-3 : tie.Need-slice-write-part-3
 slice-write-part-3 c = simp length-set (omega arith)
 
--- src/rows.rt:52:5
 slice-write-part-4 : tie.Need-slice-write-part-4
 slice-write-part-4 c = simp length-set (omega arith)
 
--- src/rows.rt:53:5
 slice-write-part-5 : tie.Need-slice-write-part-5
 slice-write-part-5 c = simp length-set (omega arith)
 
--- src/rows.rt:54:5
 slice-write-part-6 : tie.Need-slice-write-part-6
 slice-write-part-6 c = simp length-set (omega arith)
 
--- src/rows.rt:55:5
 slice-write-part-7 : tie.Need-slice-write-part-7
 slice-write-part-7 c = search needs
 
--- src/rows.rt:45:1
 same-length : tie.Need-same-length
 same-length c = search needs
 
--- src/rows.rt:45:1
 returns : tie.Need-returns
 returns c = search needs
 

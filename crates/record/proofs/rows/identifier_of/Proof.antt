@@ -3,34 +3,25 @@ use Rattle.layout.specs.Words.{row-of-read, row-beyond}
 use borrow.Author.Needs.{needs}
 use Rattle.record.proofs.rows.identifier_of.Statement.{statement}
 use Rattle.record.proofs.rows.identifier_of.Tie as tie
-use Rattle.record.proofs.rows.identifier_of.Reads as reads
-use Rattle.record.proofs.rows.identifier_of.Lts as lts
 
--- src/rows.rt:38:15
 shared-slice-read-if1 : tie.Need-shared-slice-read-if1
 shared-slice-read-if1 c = search needs
 
--- src/rows.rt:39:22
 mul-result : tie.Need-mul-result
 mul-result c = search needs
 
--- src/rows.rt:39:18
 add-result : tie.Need-add-result
 add-result c = search needs
 
--- src/rows.rt:39:16
 mul-result-2 : tie.Need-mul-result-2
 mul-result-2 c = search needs
 
--- src/rows.rt:39:16
 shared-slice-read-result : tie.Need-shared-slice-read-result
 shared-slice-read-result c = search needs
 
--- src/rows.rt:39:9
 returns : tie.Need-returns
 returns c = sym (ap (λ h. h .identifier) (row-of-read (c .before .before .before .args .w .now) (c .before .before .before .args .node) (c .before .if1 .taken)))
 
--- src/rows.rt:34:1
 returns-2 : tie.Need-returns-2
 returns-2 c = sym (ap (λ h. h .identifier) (row-beyond (c .before .before .args .w .now) (c .before .before .args .node) (c .if1 .left)))
 

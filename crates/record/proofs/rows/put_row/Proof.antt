@@ -4,43 +4,31 @@ use Rattle.protocol.specs.Record.{rowStart, rowWords}
 use borrow.Author.Needs.{needs}
 use Rattle.record.proofs.rows.put_row.Statement.{statement}
 use Rattle.record.proofs.rows.put_row.Tie as tie
-use Rattle.record.proofs.rows.put_row.Reads as reads
-use Rattle.record.proofs.rows.put_row.Lts as lts
-use Rattle.record.proofs.rows.edit_row.Reads as edit-row-reads
 
--- src/rows.rt:63:18
 mul-at : tie.Need-mul-at
 mul-at c = search needs
 
--- src/rows.rt:63:14
 add-at : tie.Need-add-at
 add-at c = search needs
 
--- src/rows.rt:64:14
 mul-edit-row : tie.Need-mul-edit-row
 mul-edit-row c = search needs
 
--- src/rows.rt:64:14
 sub-edit-row : tie.Need-sub-edit-row
 sub-edit-row c = search needs
 
--- src/rows.rt:64:14
 part-edit-row-start : tie.Need-part-edit-row-start
 part-edit-row-start c = search needs
 
--- src/rows.rt:64:14
 part-edit-row-end : tie.Need-part-edit-row-end
 part-edit-row-end c = search needs
 
--- src/rows.rt:64:5
 edit-row-requires : tie.Need-edit-row-requires
 edit-row-requires c κs = search needs
 
--- src/rows.rt:59:1
 same-length : tie.Need-same-length
 same-length c = search needs
 
--- src/rows.rt:59:1
 returns : tie.Need-returns
 returns c = let a = c .before .before .before .before .before .args in
     rw (c .before .before .edit-row .ensures) (put-tail (a .w .now) (rowWords (a .h)) (rowStart (a .node)) (omega arith))

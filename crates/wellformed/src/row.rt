@@ -1,0 +1,37 @@
+use lists::both;
+use lists::pick;
+use protocol::Row;
+ghost use mathlib.Core.Path.{_≡_};
+ghost use Rattle.protocol.specs.WellFormed.{pointersOk, lockOk, flagOk, rowOk};
+
+fn pointers_ok(n: u32, h: Row) -> bool
+    ensures { λ r. ⌜ r ≡ pointersOk n h ⌝ }
+{
+    let unlinked = both(h.pred == 255, h.succ == 255);
+    let linked = both(both(h.state < 5, h.pred < n), h.succ < n);
+    pick(h.state < 2, unlinked, linked)
+}
+
+fn lock_ok(h: Row) -> bool
+    ensures { λ r. ⌜ r ≡ lockOk h ⌝ }
+{
+    let fixed = pick(h.state == 0, h.lock == 0, h.lock == 1);
+    pick(h.state == 2, h.lock < 2, fixed)
+}
+
+fn flag_ok(n: u32, h: Row) -> bool
+    ensures { λ r. ⌜ r ≡ flagOk n h ⌝ }
+{
+    let raised = both(
+        both(both(h.flag == 1, h.state == 2), h.lock == 1),
+        h.oldpred < n,
+    );
+    pick(h.flag == 0, h.oldpred == 255, raised)
+}
+
+// A row of a ring of n nodes.
+pub fn row_ok(n: u32, h: Row) -> bool
+    ensures { λ r. ⌜ r ≡ rowOk n h ⌝ }
+{
+    both(both(pointers_ok(n, h), lock_ok(h)), flag_ok(n, h))
+}
