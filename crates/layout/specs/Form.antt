@@ -10,7 +10,7 @@ use lib.Dec.{T, leb, ltb, eqb}
 use lib.ListN.{length, getD, take, drop, replicate, length-append}
 use Rattle.lists.specs.Choice.{if_then_else_}
 use Rattle.lists.specs.Members.{Mem, mem-at}
-use Rattle.lists.specs.Tests.{and-left, and-right, and-both, Says, says-and, says-or, says-if, says-so, says-le, says-lt, says-eq, says-as, every, says-every, distinct, Distinct, says-distinct, →eqb}
+use Rattle.lists.specs.Tests.{and-left, and-right, and-both, Says, says-and, says-or, says-if, says-so, says-le, says-lt, says-eq, says-as, every, says-every, distinct, Distinct, says-distinct, true-T}
 use Rattle.protocol.specs.declared.Row.{Row}
 use Rattle.protocol.specs.declared.Message.{Message}
 use Rattle.protocol.specs.Record.{form, mostNodes, mostMessages, rowSize, messageSize, recordSize, unusedRowWords, unusedMessageWords, none, State, count, countIn, messagesIn, row, read, words, outside}
@@ -243,3 +243,22 @@ well-formed-words s t f = says-well-formed (words s ++ t) .fro (
 
 pub long-words : (s : State) (t : List ℕ) → Form s → recordSize ≤ length (words s ++ t)
 long-words s t f = omega (arith, length-append (words s) t, length-words s t (f .few) (f .short))
+
+-- What every call but fresh knows of the record after questions 1 and 2.
+pub record Valid (w : List ℕ) : Type 0 where
+  pub long : recordSize ≤ length w
+  pub formed : wellFormed w ≡ true
+  pub nodes : countIn w ≤ mostNodes
+  pub waiting : messagesIn w ≤ mostMessages
+
+pub valid : (w : List ℕ) → recordSize ≤ length w → wellFormed w ≡ true → Valid w
+valid w l ok =
+    let k = says-well-formed w .to (true-T (wellFormed w) ok) in
+    record { long = l; formed = ok; nodes = k .0 .0 .0 .1; waiting = k .0 .0 .1 }
+
+-- A valid record is the words of its state.
+pub valid-words : (w : List ℕ) → Valid w → w ≡ words (read w) ++ drop recordSize w
+valid-words w v = sym (words-read w (tidy w (true-T (wellFormed w) (v .formed)) (v .long)))
+
+pub valid-form : (w : List ℕ) → Valid w → Form (read w)
+valid-form w v = form-of w (true-T (wellFormed w) (v .formed))

@@ -22,12 +22,23 @@ pub fn row_at(w: &[u32], at: usize) -> Row
     }
 }
 
-// The row of a node.
+// The row of a node; a number that is no node's, such as 'none', counts as outside.
 pub fn row_of(w: &[u32], node: u32) -> Row
-    requires { ⌜ (recordSize ≤ length (now w)) × (countIn (now w) ≤ mostNodes) × (node < countIn (now w)) ⌝ }
+    requires { ⌜ (recordSize ≤ length (now w)) × (countIn (now w) ≤ mostNodes) ⌝ }
     ensures { λ r. ⌜ r ≡ row (read (now (w .entry))) node ⌝ }
 {
-    row_at(w, 4 + 7 * (node as usize))
+    if node < w[1] {
+        return row_at(w, 4 + 7 * (node as usize));
+    }
+    Row {
+        identifier: 0,
+        state: 0,
+        lock: 0,
+        flag: 0,
+        pred: 255,
+        succ: 255,
+        oldpred: 255,
+    }
 }
 
 // The identifier of a node; of a number that is no node's, such as 'none', 0.

@@ -1,9 +1,10 @@
+use crate::differ::repeated;
 use crate::message::message_ok;
 use crate::row::row_ok;
 use lists::both;
 use lists::failure;
 ghost use mathlib.Core.Path.{_≡_};
-ghost use mathlib.Core.Bool.{_&&_, not};
+ghost use mathlib.Core.Bool.{_&&_};
 ghost use Prim.Native.Nat.{ℕ, _+_, _*_, _≤_, _<_};
 ghost use lib.Dec.{eqb};
 ghost use lib.ListN.{length, getD};
@@ -77,36 +78,6 @@ fn identifiers(w: &[u32], n: u32) -> [u32; 64]
     ids
 }
 
-// 0 where identifier i is none of those before it.
-fn repeats(ids: &[u32; 64], i: usize) -> u32
-    requires { ⌜ i < mostNodes ⌝ }
-    ensures { λ r. ⌜ r ≡ merged i (λ j. if not (eqb (getD (now (ids .entry)) j 0) (getD (now (ids .entry)) i 0)) then 0 else 1) ⌝ }
-{
-    let id = ids[i];
-    let mut bad: u32 = 0;
-    let mut j = 0;
-    while j < i {
-        bad |= failure(ids[j] != id);
-        j += 1;
-    }
-    bad
-}
-
-// 0 where the n identifiers differ.
-fn all_repeats(ids: &[u32; 64], n: u32) -> u32
-    requires { ⌜ n ≤ mostNodes ⌝ }
-    ensures { λ r. ⌜ r ≡ merged n (λ i. merged i (λ j. if not (eqb (getD (now (ids .entry)) j 0) (getD (now (ids .entry)) i 0)) then 0 else 1)) ⌝ }
-{
-    let end = n as usize;
-    let mut bad: u32 = 0;
-    let mut i = 0;
-    while i < end {
-        bad |= repeats(ids, i);
-        i += 1;
-    }
-    bad
-}
-
 // 0 where the unused words are 0.
 fn bad_unused(w: &[u32], n: u32, m: u32) -> u32
     requires { ⌜ (n ≡ countIn (now w)) × (m ≡ messagesIn (now w)) × (n ≤ mostNodes) × (m ≤ mostMessages) × (recordSize ≤ length (now w)) ⌝ }
@@ -123,7 +94,7 @@ fn bad_content(w: &[u32], n: u32, m: u32) -> u32
     ensures { λ r. ⌜ eqb r 0 ≡ formed (read (now (w .entry))) ⌝ }
 {
     let ids = identifiers(w, n);
-    all_repeats(&ids, n) | bad_rows(w, n) | bad_messages(w, n, w[3], m)
+    repeated(&ids, n as usize) | bad_rows(w, n) | bad_messages(w, n, w[3], m)
 }
 
 pub fn well_formed(w: &[u32]) -> bool

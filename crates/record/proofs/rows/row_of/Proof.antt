@@ -1,8 +1,11 @@
 use mathlib.Core.Path.{_∙_, sym}
-use Rattle.layout.specs.Words.{row-of-read}
+use Rattle.layout.specs.Words.{row-of-read, row-beyond}
 use borrow.Author.Needs.{needs}
 use Rattle.record.proofs.rows.row_of.Statement.{statement}
 use Rattle.record.proofs.rows.row_of.Tie as tie
+
+shared-slice-read-if1 : tie.Need-shared-slice-read-if1
+shared-slice-read-if1 c = search needs
 
 mul-row-at : tie.Need-mul-row-at
 mul-row-at c = search needs
@@ -14,7 +17,12 @@ row-at-requires : tie.Need-row-at-requires
 row-at-requires c κs = search needs
 
 returns : tie.Need-returns
-returns c = c .row-at .ensures ∙ sym (row-of-read (c .before .before .args .w .now) (c .before .before .args .node) (c .before .before .pre .2))
+returns c = let a = c .before .before .before .before .args in c .row-at .ensures ∙ sym (row-of-read (a .w .now) (a .node) (c .before .if1 .taken))
+
+returns-2 : tie.Need-returns-2
+returns-2 c = sym (row-beyond (c .before .before .before .args .w .now) (c .before .before .before .args .node) (c .if1 .left))
 
 pub row-of-spec : {M : Type 1} → statement M
-row-of-spec = tie.close (tie.spec mul-row-at add-row-at row-at-requires returns)
+row-of-spec =
+    tie.close
+    (tie.spec shared-slice-read-if1 mul-row-at add-row-at row-at-requires returns returns-2)

@@ -7,14 +7,14 @@ use lib.Dec.{eqb}
 use lib.ListN.{getD}
 use Rattle.lists.specs.Choice.{if_then_else_}
 use Rattle.lists.specs.Merge.{merged, merged-none, merged-more}
-use Rattle.wellformed.proofs.content.all_repeats.Statement.{statement}
-use Rattle.wellformed.proofs.content.all_repeats.Tie as tie
+use Rattle.wellformed.proofs.differ.repeated.Statement.{statement}
+use Rattle.wellformed.proofs.differ.repeated.Tie as tie
 
 abbrev Inv-loop : tie.InvT-loop
-Inv-loop ids n end bad₀ i₀ bad i = (i ≤ n) × (bad ≡ merged i (λ i. merged i (λ j. if not (eqb (getD ids j 0) (getD ids i 0)) then 0 else 1)))
+Inv-loop ids n bad₀ i₀ bad i = (i ≤ n) × (bad ≡ merged i (λ i. merged i (λ j. if not (eqb (getD ids j 0) (getD ids i 0)) then 0 else 1)))
 
 abbrev μ-loop : tie.MeasureT-loop
-μ-loop ids n end bad₀ i₀ bad i = n - i
+μ-loop ids n bad₀ i₀ bad i = n - i
 
 loop-holds : tie.Need-loop-holds Inv-loop μ-loop
 loop-holds c = (search needs, sym (merged-none _))
@@ -32,11 +32,11 @@ loop-again : tie.Need-loop-again Inv-loop μ-loop
 loop-again c = let l = c .before .before .loop in (search needs, rw (merged-more, ← l .inv .1, c .repeats .ensures))
 
 returns : tie.Need-returns Inv-loop μ-loop
-returns c = let a = c .before .before .args in
+returns c = let a = c .before .before .before .args in
     let e : c .before .loop .i ≡ a .n = omega arith in
     c .before .loop .inv .1 ∙ ap (λ k. merged k (λ i. merged i (λ j. if not (eqb (getD (a .ids .now) j 0) (getD (a .ids .now) i 0)) then 0 else 1))) e
 
-pub all-repeats-spec : {M : Type 1} → statement M
-all-repeats-spec =
+pub repeated-spec : {M : Type 1} → statement M
+repeated-spec =
     tie.close
     (tie.spec Inv-loop μ-loop loop-holds repeats-requires add-i loop-less loop-again returns)

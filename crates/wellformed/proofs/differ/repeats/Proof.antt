@@ -1,14 +1,14 @@
 use borrow.Author.Needs.{needs}
 use mathlib.Core.Path.{_≡_, sym, _∙_, ap}
+use mathlib.Core.Bool.{not}
 use Prim.Native.Nat.{_≤_, _-_}
 use native.Mathlib.Omega.{arith}
-use Rattle.lists.specs.Choice.{if_then_else_}
-use Rattle.lists.specs.Merge.{merged, merged-none, merged-more}
-use mathlib.Core.Bool.{not}
 use lib.Dec.{eqb}
 use lib.ListN.{getD}
-use Rattle.wellformed.proofs.content.repeats.Statement.{statement}
-use Rattle.wellformed.proofs.content.repeats.Tie as tie
+use Rattle.lists.specs.Choice.{if_then_else_}
+use Rattle.lists.specs.Merge.{merged, merged-none, merged-more}
+use Rattle.wellformed.proofs.differ.repeats.Statement.{statement}
+use Rattle.wellformed.proofs.differ.repeats.Tie as tie
 
 abbrev Inv-loop : tie.InvT-loop
 Inv-loop ids i id bad₀ j₀ bad j = (j ≤ i) × (bad ≡ merged j (λ j. if not (eqb (getD ids j 0) (getD ids i 0)) then 0 else 1))
@@ -19,8 +19,8 @@ abbrev μ-loop : tie.MeasureT-loop
 mul-id : tie.Need-mul-id Inv-loop μ-loop
 mul-id c = search needs
 
-element-copy-out-id : tie.Need-element-copy-out-id Inv-loop μ-loop
-element-copy-out-id c = search needs
+shared-slice-read-id : tie.Need-shared-slice-read-id Inv-loop μ-loop
+shared-slice-read-id c = search needs
 
 loop-holds : tie.Need-loop-holds Inv-loop μ-loop
 loop-holds c = (search needs, sym (merged-none _))
@@ -28,8 +28,8 @@ loop-holds c = (search needs, sym (merged-none _))
 mul-failure : tie.Need-mul-failure Inv-loop μ-loop
 mul-failure c = search needs
 
-element-copy-out-failure : tie.Need-element-copy-out-failure Inv-loop μ-loop
-element-copy-out-failure c = search needs
+shared-slice-read-failure : tie.Need-shared-slice-read-failure Inv-loop μ-loop
+shared-slice-read-failure c = search needs
 
 failure-requires : tie.Need-failure-requires Inv-loop μ-loop
 failure-requires c κs = search needs
@@ -44,8 +44,7 @@ loop-again : tie.Need-loop-again Inv-loop μ-loop
 loop-again c = let l = c .before .before .before .loop in (search needs, rw (merged-more, ← l .inv .1, c .failure .ensures))
 
 returns : tie.Need-returns Inv-loop μ-loop
-returns c =
-    let a = c .before .before .before .args in
+returns c = let a = c .before .before .before .before .args in
     let e : c .before .loop .j ≡ a .i = omega arith in
     c .before .loop .inv .1 ∙ ap (λ k. merged k (λ j. if not (eqb (getD (a .ids .now) j 0) (getD (a .ids .now) (a .i) 0)) then 0 else 1)) e
 
@@ -56,10 +55,10 @@ repeats-spec =
     Inv-loop
     μ-loop
     mul-id
-    element-copy-out-id
+    shared-slice-read-id
     loop-holds
     mul-failure
-    element-copy-out-failure
+    shared-slice-read-failure
     failure-requires
     add-j
     loop-less
