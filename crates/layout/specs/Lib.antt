@@ -1,3 +1,4 @@
 pub mod Words
 pub mod Form
 pub mod Edits
+pub mod Questions

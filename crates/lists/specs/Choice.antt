@@ -1,4 +1,5 @@
 -- Choice by a test. It stays shut, so that a proof about a choice finds its parts. Assumes nothing.
+use mathlib.Core.Path.{_≡_, ap}
 use mathlib.Core.Bool.{Bool, true, false, not}
 use lib.Dec.{T}
 
@@ -10,6 +11,14 @@ if false then x else y = y
 -- A question: where the answer is no, what stands for the refusal.
 unfoldable pub require : {A : Type 0} → Bool → A → A → A
 require b no-result rest = if b then rest else no-result
+
+pub on-yes : {A : Type 0} (b : Bool) (x y : A) → b ≡ true → require b x y ≡ y
+unfolding require if_then_else_
+on-yes b x y e = ap (λ z. if z then y else x) e
+
+pub on-no : {A : Type 0} (b : Bool) (x y : A) → b ≡ false → require b x y ≡ x
+unfolding require if_then_else_
+on-no b x y e = ap (λ z. if z then y else x) e
 
 -- What holds of a choice: P is a property of the value chosen.
 module _ {A : Type 0} (P : A → Type 0) where

@@ -1,0 +1,98 @@
+// 1 join, 2 leave, 3 deliver.
+use crate::apply::settle;
+use crate::apply::settle_without;
+use handlers::in_ring;
+use handlers::kinds;
+use handlers::note;
+use lists::both;
+use protocol::Answer;
+use protocol::Decision;
+use protocol::Outcome;
+ghost use mathlib.Core.Path.{_≡_};
+ghost use Rattle.protocol.specs.Record.{read};
+ghost use Rattle.protocol.specs.Step.{join as joinSpec, leave as leaveSpec, deliver as deliverSpec};
+ghost use Rattle.protocol.specs.Calls.{written};
+ghost use Rattle.layout.specs.Form.{Valid};
+
+// 'x becomes joining, locked; sends JOIN (a = x) to y.'
+pub(crate) fn join(w: &mut [u32], x: u32, y: u32) -> Outcome
+    requires { ⌜ Valid (now w) ⌝ }
+    ensures { λ r. ⌜ written (now (w .entry)) (joinSpec (read (now (w .entry))) x y) ≡ record { outcome = r; slice = now (w .exit) } ⌝ }
+{
+    let n = w[1];
+    let m = w[2];
+    if !both(x < n, y < n) {
+        return Outcome::Refused(4);
+    }
+    let mut h = record::row_of(w, x);
+    if h.state != 0 {
+        return Outcome::Refused(6);
+    }
+    if !in_ring(record::row_of(w, y)) {
+        return Outcome::Refused(5);
+    }
+    if m < 256 {
+        h.state = 1;
+        h.lock = 1;
+        return settle(
+            w,
+            m,
+            x,
+            Decision::Send(h, note(kinds::JOIN, x, y, x), Answer::Quiet),
+        );
+    }
+    Outcome::Refused(11)
+}
+
+// 'x gets state 3, locked; sends LEAVEREQ to its succ.'
+pub(crate) fn leave(w: &mut [u32], x: u32) -> Outcome
+    requires { ⌜ Valid (now w) ⌝ }
+    ensures { λ r. ⌜ written (now (w .entry)) (leaveSpec (read (now (w .entry))) x) ≡ record { outcome = r; slice = now (w .exit) } ⌝ }
+{
+    let m = w[2];
+    if w[1] <= x {
+        return Outcome::Refused(4);
+    }
+    let mut h = record::row_of(w, x);
+    if !in_ring(h) {
+        return Outcome::Refused(5);
+    }
+    if h.lock != 0 {
+        return Outcome::Refused(7);
+    }
+    if h.succ == x {
+        return Outcome::Refused(8);
+    }
+    if m < 256 {
+        h.state = 3;
+        h.lock = 1;
+        return settle(
+            w,
+            m,
+            x,
+            Decision::Send(h, note(kinds::LEAVEREQ, x, h.succ, 0), Answer::Quiet),
+        );
+    }
+    Outcome::Refused(11)
+}
+
+// 'the oldest message with that from and to', at its receiver.
+pub(crate) fn deliver(w: &mut [u32], x: u32, y: u32) -> Outcome
+    requires { ⌜ Valid (now w) ⌝ }
+    ensures { λ r. ⌜ written (now (w .entry)) (deliverSpec (read (now (w .entry))) x y) ≡ record { outcome = r; slice = now (w .exit) } ⌝ }
+{
+    let n = w[1];
+    let m = w[2];
+    if !both(x < n, y < n) {
+        return Outcome::Refused(4);
+    }
+    let j = record::find(w, x, y);
+    if j < m {
+        let u = record::message_at(w, 452 + 6 * (j as usize));
+        let h = record::row_of(w, y);
+        let p = record::identifier_of(w, h.pred);
+        let g = record::row_of(w, u.a);
+        return settle_without(w, m, j, y, handlers::handle(p, h, g, u));
+    }
+    Outcome::Refused(9)
+}
