@@ -1,10 +1,10 @@
 // 0 ask: 'takes ticket = asked, adds 1 to asked, then routes with no sender and hops 0.'
-use handlers::in_ring;
-use handlers::onward;
-use handlers::question;
 use protocol::Answer;
 use protocol::Outcome;
 use protocol::Route;
+use routing::in_ring;
+use routing::onward;
+use routing::question;
 ghost use mathlib.Core.Path.{_≡_};
 ghost use Prim.Native.Nat.{_<_};
 ghost use Rattle.protocol.specs.Record.{askedIn, read};

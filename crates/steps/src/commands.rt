@@ -1,13 +1,13 @@
 // 1 join, 2 leave, 3 deliver.
 use crate::apply::settle;
 use crate::apply::settle_without;
-use handlers::in_ring;
-use handlers::kinds;
-use handlers::note;
 use lists::both;
 use protocol::Answer;
 use protocol::Decision;
 use protocol::Outcome;
+use protocol::kinds;
+use routing::in_ring;
+use routing::note;
 ghost use mathlib.Core.Path.{_≡_};
 ghost use Rattle.protocol.specs.Record.{read};
 ghost use Rattle.protocol.specs.Step.{join as joinSpec, leave as leaveSpec, deliver as deliverSpec};

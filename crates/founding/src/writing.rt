@@ -1,0 +1,67 @@
+// The words of a fresh ring, written over whatever the slice came with.
+use crate::founder::alone_row;
+use crate::founder::founding_node;
+use protocol::Row;
+use record::put_row;
+ghost use mathlib.Core.Path.{_≡_};
+ghost use mathlib.Core.List.{_++_, map};
+ghost use Prim.Native.Nat.{_≤_};
+ghost use lib.ListN.{length, drop, replicate};
+ghost use Rattle.lists.specs.Splice.{splice};
+ghost use Rattle.lists.specs.Blocks.{flat};
+ghost use Rattle.protocol.specs.Record.{mostNodes, rowStart, recordSize, rowWords, words, outside};
+ghost use Rattle.protocol.specs.Fresh.{fresh};
+
+// Unused rows and messages are all 0, so old words must go.
+fn clear(w: &mut [u32], n: usize)
+    requires { ⌜ n ≤ length (now w) ⌝ }
+    ensures { λ _. ⌜ now (w .exit) ≡ replicate n 0 ++ drop n (now (w .entry)) ⌝ }
+{
+    let mut k = 0;
+    while k < n {
+        w[k] = 0;
+        k += 1;
+    }
+}
+
+fn outside_row(identifier: u32) -> Row
+    ensures { λ r. ⌜ r ≡ outside identifier ⌝ }
+{
+    Row {
+        identifier,
+        state: 0,
+        lock: 0,
+        flag: 0,
+        pred: 255,
+        succ: 255,
+        oldpred: 255,
+    }
+}
+
+// Every node starts outside, the founder too: it gets its own row afterwards, so that this loop has no case.
+fn put_rows(w: &mut [u32], identifiers: &[u32])
+    requires { ⌜ (length (now identifiers) ≤ mostNodes) × (recordSize ≤ length (now w)) ⌝ }
+    ensures { λ _. ⌜ now (w .exit) ≡ splice (now (w .entry)) (rowStart 0) (flat rowWords (map outside (now (identifiers .entry)))) ⌝ }
+{
+    let mut i = 0;
+    while i < identifiers.len() {
+        let node = i as u32;
+        let identifier = identifiers[i];
+        put_row(w, node, outside_row(identifier));
+        i += 1;
+    }
+}
+
+// Writes the whole record. Message count and asked are among the cleared words.
+pub fn write_fresh(w: &mut [u32], identifiers: &[u32])
+    requires { ⌜ (1 ≤ length (now identifiers)) × (length (now identifiers) ≤ mostNodes) × (recordSize ≤ length (now w)) ⌝ }
+    ensures { λ _. ⌜ now (w .exit) ≡ words (fresh (now (identifiers .entry))) ++ drop recordSize (now (w .entry)) ⌝ }
+{
+    clear(w, 1988);
+    w[0] = 1;
+    w[1] = identifiers.len() as u32;
+    put_rows(w, identifiers);
+    let node = founding_node(identifiers);
+    let identifier = identifiers[node as usize];
+    put_row(w, node, alone_row(node, identifier));
+}
