@@ -1,0 +1,6 @@
+// The step with a tally: how many steps gave each kind of answer, and how many were refused (document 01, 'Reading the ring').
+mod counts;
+mod perform;
+
+pub use counts::counted;
+pub use perform::step;
