@@ -1,3 +1,4 @@
+-- `failure`: the negated test as a number, in both cases. Assumes nothing.
 use borrow.Author.Needs.{needs}
 use Rattle.lists.specs.Choice.{if_then_else_}
 use Rattle.lists.proofs.failure.Statement.{statement}

@@ -1,3 +1,4 @@
+-- `close_up`: what `shift` leaves, with an empty message behind it. Assumes nothing.
 use native.Mathlib.Omega.{arith}
 use Rattle.lists.specs.Splice.{put-tail, shifted, closed, length-shifted}
 use Rattle.protocol.specs.Record.{messageSize, messageWords, noMessage}

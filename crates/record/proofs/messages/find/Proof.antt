@@ -1,3 +1,4 @@
+-- `find`: no message before i is on the link; the first that is, is the oldest. Assumes nothing.
 use Rattle.layout.specs.Words.{on-link-read, oldest-read}
 use borrow.Author.Needs.{needs}
 use mathlib.Core.Path.{_≡_, sym, _∙_}

@@ -1,3 +1,4 @@
+-- `push`: the message is written behind the last one, and the count raised. Assumes nothing.
 use native.Mathlib.Omega.{arith}
 use Rattle.lists.specs.Splice.{put-tail}
 use Rattle.protocol.specs.Record.{messageStart, messageWords}

@@ -1,3 +1,4 @@
+-- `remove`: the gap is closed up, and the count is one less. Assumes nothing.
 use Rattle.lists.specs.Splice.{part-from, part-back}
 use Rattle.protocol.specs.Record.{messageStart}
 use Rattle.layout.specs.Edits.{removed}

@@ -1,3 +1,4 @@
+-- `shift`: the first k words have come forward by the width of a message, the others are as they were. Assumes nothing.
 use borrow.Author.Needs.{needs}
 use mathlib.Core.Path.{_≡_, refl}
 use Prim.Native.Nat.{_≤_, _<_, _-_, _+_}

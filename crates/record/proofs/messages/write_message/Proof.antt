@@ -1,3 +1,4 @@
+-- `write_message`: six words, written one by one, are the words of the message. Assumes nothing.
 use native.Mathlib.Omega.{arith}
 use lib.ListN.{length-set}
 use borrow.Author.Needs.{needs}

@@ -1,3 +1,4 @@
+-- `edit_row`: seven words of the lent part, written one by one, are the words of the row. Assumes nothing.
 use native.Mathlib.Omega.{arith}
 use lib.ListN.{length-set}
 use borrow.Author.Needs.{needs}

@@ -1,3 +1,4 @@
+-- `identifier_of`: the first word of the row; the zero identifier where there is no node. Assumes nothing.
 use mathlib.Core.Path.{ap, sym}
 use Rattle.layout.specs.Words.{row-of-read, row-beyond}
 use borrow.Author.Needs.{needs}

@@ -1,3 +1,4 @@
+-- `put_row`: the part from 4 + 7 i on is lent to the editor, and put back as it left it. Assumes nothing.
 use native.Mathlib.Omega.{arith}
 use Rattle.lists.specs.Splice.{put-tail}
 use Rattle.protocol.specs.Record.{rowStart, rowWords}

@@ -1,3 +1,4 @@
+-- `row_of`: the seven words of a row, read field by field. Assumes nothing.
 use mathlib.Core.Path.{_∙_, sym}
 use Rattle.layout.specs.Words.{row-of-read, row-beyond}
 use borrow.Author.Needs.{needs}

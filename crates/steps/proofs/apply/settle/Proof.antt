@@ -1,3 +1,4 @@
+-- `settle`: each decision writes what its case of the definition says. Assumes nothing.
 use Rattle.steps.specs.Settle.{settled}
 use borrow.Author.Needs.{needs}
 use Rattle.steps.proofs.apply.settle.Statement.{statement}

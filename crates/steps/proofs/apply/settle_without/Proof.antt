@@ -1,3 +1,4 @@
+-- `settle_without`: the delivered message is taken out first, unless the decision refuses. Assumes nothing.
 use Rattle.steps.specs.Settle.{settledWithout}
 use borrow.Author.Needs.{needs}
 use Rattle.steps.proofs.apply.settle_without.Statement.{statement}

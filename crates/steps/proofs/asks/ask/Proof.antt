@@ -1,3 +1,4 @@
+-- `ask`: its questions in order; the rest is `asking`. Assumes nothing.
 use Rattle.protocol.specs.Record.{read, identifier}
 use Rattle.steps.specs.Questions.{ask-4, ask-5, ask-12, ask-routed}
 use Rattle.protocol.specs.Record.{read}

@@ -1,3 +1,4 @@
+-- `asking`: an own question is answered, another sent on if there is room. Assumes nothing.
 use Prim.Native.Nat.{_+_}
 use lib.ListN.{set}
 use Rattle.layout.specs.Edits.{pushed}

@@ -1,3 +1,4 @@
+-- `deliver`: the oldest message of the link is handled and settled. Assumes nothing.
 use Rattle.steps.specs.Settle.{settledWithout, settled-without-is}
 use Rattle.steps.specs.Questions.{second-node, deliver-4, deliver-9, deliver-handled}
 use Rattle.layout.specs.Words.{message-of-read}

@@ -1,3 +1,4 @@
+-- `join`: its questions in order, then the row and the JOIN message. Assumes nothing.
 use native.Mathlib.Omega.{arith}
 use Rattle.steps.specs.Settle.{settled, settled-is}
 use Rattle.steps.specs.Questions.{first-node, join-4, join-6, join-5, join-11, join-sent}

@@ -1,3 +1,4 @@
+-- `leave`: its questions in order, then the row and the LEAVEREQ message. Assumes nothing.
 use Rattle.steps.specs.Settle.{settled, settled-is}
 use Rattle.steps.specs.Questions.{leave-4, leave-5, leave-7, leave-8, leave-11, leave-sent}
 use Rattle.protocol.specs.Record.{read, row, messagesIn}

@@ -1,3 +1,4 @@
+-- `step`: questions 1 and 2, then `run` on a valid record. Assumes nothing.
 use Rattle.layout.specs.Form.{valid}
 use Rattle.layout.specs.Questions.{record-1, record-2, record-rest}
 use Rattle.protocol.specs.Record.{read}

@@ -1,3 +1,4 @@
+-- `bad_content`: the failures of rows, messages and unused words, merged. Assumes nothing.
 use Rattle.wellformed.specs.Laws.{content-law}
 use borrow.Author.Needs.{needs}
 use Rattle.wellformed.proofs.content.bad_content.Statement.{statement}

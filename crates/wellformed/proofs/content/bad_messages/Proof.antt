@@ -1,3 +1,4 @@
+-- `bad_messages`: the merged failures of the messages before i. Assumes nothing.
 use borrow.Author.Needs.{needs}
 use mathlib.Core.Path.{_≡_, sym, _∙_, ap}
 use Prim.Native.Nat.{_≤_, _-_}

@@ -1,3 +1,4 @@
+-- `bad_unused`: the words behind the rows and behind the messages, merged. Assumes nothing.
 use Rattle.wellformed.specs.Laws.{unused-law}
 use borrow.Author.Needs.{needs}
 use Rattle.wellformed.proofs.content.bad_unused.Statement.{statement}

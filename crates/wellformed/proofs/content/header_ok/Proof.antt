@@ -1,3 +1,4 @@
+-- `header_ok`: form, n and m, each by its test. Assumes nothing.
 use Rattle.protocol.specs.WellFormed.{headerOk}
 use borrow.Author.Needs.{needs}
 use Rattle.wellformed.proofs.content.header_ok.Statement.{statement}

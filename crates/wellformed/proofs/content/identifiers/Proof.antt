@@ -1,3 +1,4 @@
+-- `identifiers`: the first word of each row before i, copied out. Assumes nothing.
 use borrow.Author.Needs.{needs}
 use mathlib.Core.Path.{_≡_, refl}
 use Rattle.lists.specs.Members.{filled}

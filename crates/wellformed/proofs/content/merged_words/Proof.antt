@@ -1,3 +1,4 @@
+-- `merged_words`: the words of a part before i, merged. Assumes nothing.
 use borrow.Author.Needs.{needs}
 use mathlib.Core.Path.{_≡_, sym, _∙_, ap}
 use Prim.Native.Nat.{_≤_, _-_}

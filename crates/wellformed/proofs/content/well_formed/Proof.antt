@@ -1,3 +1,4 @@
+-- `well_formed`: no failure is left where the merged failures are 0. Assumes nothing.
 use mathlib.Core.Path.{_≡_, refl, sym, _∙_}
 use mathlib.Core.Bool.{true}
 use borrow.Author.Tests.{not-true, not-false}

@@ -1,3 +1,4 @@
+-- `repeated`: the failures of each identifier against those before it, merged. Assumes nothing.
 use borrow.Author.Needs.{needs}
 use mathlib.Core.Path.{_≡_, sym, _∙_, ap}
 use mathlib.Core.Bool.{not}

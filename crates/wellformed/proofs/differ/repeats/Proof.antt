@@ -1,3 +1,4 @@
+-- `repeats`: the failures of one identifier against the first i, merged. Assumes nothing.
 use borrow.Author.Needs.{needs}
 use mathlib.Core.Path.{_≡_, sym, _∙_, ap}
 use mathlib.Core.Bool.{not}

@@ -1,3 +1,4 @@
+-- `a_ok`: the kind decides which numbers a may be. Assumes nothing.
 use Rattle.protocol.specs.WellFormed.{aOk}
 use borrow.Author.Needs.{needs}
 use Rattle.wellformed.proofs.message.a_ok.Statement.{statement}

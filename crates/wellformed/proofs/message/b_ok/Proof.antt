@@ -1,3 +1,4 @@
+-- `b_ok`: the kind decides which numbers b may be. Assumes nothing.
 use Rattle.protocol.specs.WellFormed.{bOk}
 use borrow.Author.Needs.{needs}
 use Rattle.wellformed.proofs.message.b_ok.Statement.{statement}

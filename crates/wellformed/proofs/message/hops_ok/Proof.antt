@@ -1,3 +1,4 @@
+-- `hops_ok`: the kind decides which numbers hops may be. Assumes nothing.
 use Rattle.protocol.specs.WellFormed.{hopsOk}
 use borrow.Author.Needs.{needs}
 use Rattle.wellformed.proofs.message.hops_ok.Statement.{statement}

@@ -1,3 +1,4 @@
+-- `message_ok`: the tests of the six fields, merged. Assumes nothing.
 use Rattle.protocol.specs.WellFormed.{messageOk}
 use borrow.Author.Needs.{needs}
 use Rattle.wellformed.proofs.message.message_ok.Statement.{statement}

@@ -1,3 +1,4 @@
+-- `names_node`: the kinds whose a names a node. Assumes nothing.
 use Rattle.protocol.specs.WellFormed.{namesNode}
 use borrow.Author.Needs.{needs}
 use Rattle.wellformed.proofs.message.names_node.Statement.{statement}

@@ -1,3 +1,4 @@
+-- `flag_ok`: flag, oldpred and state by their tests. Assumes nothing.
 use Rattle.protocol.specs.WellFormed.{flagOk}
 use borrow.Author.Needs.{needs}
 use Rattle.wellformed.proofs.row.flag_ok.Statement.{statement}

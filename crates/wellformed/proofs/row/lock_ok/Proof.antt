@@ -1,3 +1,4 @@
+-- `lock_ok`: the state decides which locks there may be. Assumes nothing.
 use Rattle.protocol.specs.WellFormed.{lockOk}
 use borrow.Author.Needs.{needs}
 use Rattle.wellformed.proofs.row.lock_ok.Statement.{statement}

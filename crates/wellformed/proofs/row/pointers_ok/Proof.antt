@@ -1,3 +1,4 @@
+-- `pointers_ok`: the state decides which pointers there may be. Assumes nothing.
 use Rattle.protocol.specs.WellFormed.{pointersOk}
 use borrow.Author.Needs.{needs}
 use Rattle.wellformed.proofs.row.pointers_ok.Statement.{statement}

@@ -1,3 +1,4 @@
+-- `row_ok`: the tests of the fields, merged. Assumes nothing.
 use Rattle.protocol.specs.WellFormed.{rowOk}
 use borrow.Author.Needs.{needs}
 use Rattle.wellformed.proofs.row.row_ok.Statement.{statement}

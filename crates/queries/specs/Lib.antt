@@ -1,0 +1,2 @@
+pub mod Rolls
+pub mod Questions
