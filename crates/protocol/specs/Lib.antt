@@ -8,3 +8,5 @@ pub mod Step
 pub mod Answers
 pub mod Membership
 pub mod Calls
+pub mod Frames
+pub mod Bytes

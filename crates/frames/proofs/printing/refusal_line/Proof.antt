@@ -1,0 +1,18 @@
+-- `frames::printing::refusal_line`: four digits put into 25 bytes of LF, which compute. Assumes nothing.
+use Rattle.protocol.specs.Frames.{line, refusalText, print2}
+use borrow.Author.Needs.{needs}
+use Rattle.frames.proofs.printing.refusal_line.Statement.{statement}
+use Rattle.frames.proofs.printing.refusal_line.Tie as tie
+
+put2-requires : tie.Need-put2-requires
+put2-requires c κs = search needs
+
+put2-requires-2 : tie.Need-put2-requires-2
+put2-requires-2 c κs = search needs
+
+returns : tie.Need-returns
+unfolding line refusalText print2
+returns c = (simp (c .put22 .ensures, c .before .before .put2 .ensures), search needs, simp (c .put22 .ensures, c .before .before .put2 .ensures))
+
+pub refusal-line-spec : {M : Type 1} → statement M
+refusal-line-spec = tie.close (tie.spec put2-requires put2-requires-2 returns)

@@ -1,0 +1,4 @@
+pub mod Digits
+pub mod Founding
+pub mod Lines
+pub mod Printing

@@ -1,0 +1,72 @@
+-- `ring_fresh` meets its contract: a fresh call on other words is one on the lent words, and writing the record is writing all of them. Assumes nothing.
+use mathlib.Core.Path.{sym, _∙_}
+use Prim.Native.Nat.{ℕ, _/_}
+use lib.ListN.{length, replicate, length-replicate}
+use Rattle.lists.specs.Blocks.{length-table}
+use native.Mathlib.Omega.{arith}
+use Rattle.lists.specs.Members.{All, all-at}
+use Rattle.ring_c.specs.Carry.{Byte, wordAt}
+use Rattle.ring_c.specs.Results.{fresh-1, fresh-13, fresh-rest}
+use borrow.Author.Needs.{needs}
+use Rattle.ring_c.proofs.ring_fresh.Statement.{statement}
+use Rattle.ring_c.proofs.ring_fresh.Tie as tie
+use Rattle.ring_c.proofs.ring_fresh.Lts as lts
+
+returns : tie.Need-returns
+returns c = fresh-1 (c .before .before .before .args .words .now) (c .before .before .before .args .identifiers .now) (c .if1 .taken)
+
+returns-2 : tie.Need-returns-2
+returns-2 c = fresh-13 (c .before .before .before .before .args .words .now) (c .before .before .before .before .args .identifiers .now) (c .before .if1 .left) (c .if2 .taken)
+
+slice-aggregate-load : tie.Need-slice-aggregate-load
+slice-aggregate-load c = search needs
+
+load-requires : tie.Need-load-requires
+load-requires c κs = search needs
+
+slice-aggregate-fresh : tie.Need-slice-aggregate-fresh
+slice-aggregate-fresh c = search needs
+
+array-share-prefix-ids : tie.Need-array-share-prefix-ids
+array-share-prefix-ids c = search needs
+
+slice-aggregate-fresh-2 : tie.Need-slice-aggregate-fresh-2
+slice-aggregate-fresh-2 c = rw (c .before .before .before .load .ensures) (sym (length-table (length (c .before .before .before .before .before .before .before .before .before .args .identifiers .now) / 4) (wordAt (c .before .before .before .before .before .before .before .before .before .args .identifiers .now))))
+
+fresh-requires : tie.Need-fresh-requires
+fresh-requires c κs = search needs
+
+slice-aggregate-finish-fresh : tie.Need-slice-aggregate-finish-fresh
+slice-aggregate-finish-fresh c = search needs
+
+finish-fresh-requires : tie.Need-finish-fresh-requires
+finish-fresh-requires c κs = search needs
+
+same-length : tie.Need-same-length
+same-length c = search needs
+
+returns-3 : tie.Need-returns-3
+returns-3 c =
+    let a = c .before .before .before .before .before .before .before .before .before .before .before .before .before .before .before .before .args in
+    let b = a .words .now in
+    let bytes : All Byte b = all-at Byte b 0 (λ i h. omega (arith, c .before .before .before .before .before .before .before .before .before .before .before .before .before .before .before .slice-known .given i)) in
+    fresh-rest b (a .identifiers .now) bytes (c .before .before .before .before .before .before .before .before .before .before .before .before .before .if1 .left) (c .before .before .before .before .before .before .before .before .before .before .before .before .if2 .left) (replicate 1988 0) (length-replicate {A = ℕ} 1988 0) _ _
+    (rw (c .before .before .before .before .before .before .before .before .before .before .load .ensures) at (c .before .before .before .before .before .before .fresh .ensures))
+    ∙ c .before .before .finish-fresh .ensures
+
+pub ring-fresh-spec : {M : Type 1} → statement M
+ring-fresh-spec =
+    tie.close
+    (tie.spec
+    returns
+    returns-2
+    slice-aggregate-load
+    load-requires
+    slice-aggregate-fresh
+    array-share-prefix-ids
+    slice-aggregate-fresh-2
+    fresh-requires
+    slice-aggregate-finish-fresh
+    finish-fresh-requires
+    same-length
+    returns-3)

@@ -1,0 +1,148 @@
+-- Words as bytes and back: what is loaded, what is written back, and what is left alone. Assumes nothing.
+use mathlib.Core.Path.{_≡_, refl, ap, sym, _∙_}
+use mathlib.Core.List.{List, [], _∷_, _++_, append-assoc}
+use Prim.Native.Nat.{ℕ, zero, suc, _+_, _*_, _/_, _%_, _^_, _<_, _≤_}
+use native.Mathlib.Nat.{add-assoc}
+use native.Mathlib.Omega.{arith}
+use native.Mathlib.Numerals.{add-one}
+use lib.ListN.{length, getD, take, drop, set, length-append}
+use lib.Seq.{take-suc, drop-drop, drop-cons, length-take-le, take-suc-set}
+use Rattle.lists.specs.Members.{All}
+use Rattle.lists.specs.Blocks.{table, flat-append, length-flat}
+use Rattle.lists.specs.Splice.{splice, splice-at}
+use Rattle.protocol.specs.Bytes.{wordOf, wordBytes, wordsOf, bytesOf, over, bytesAfter, carried}
+use Rattle.protocol.specs.declared.Outcome.{Outcome}
+use Rattle.protocol.specs.declared.Outcome.the-variants.{Refused, Answered}
+use Rattle.protocol.specs.Answers.{refusal, outcomeWords}
+use Rattle.ring_c.specs.First.{with}
+
+-- word i of the bytes
+abbrev pub wordAt : List ℕ → ℕ → ℕ
+wordAt b i = wordOf (getD b (4 * i) 0) (getD b (4 * i + 1) 0) (getD b (4 * i + 2) 0) (getD b (4 * i + 3) 0)
+
+-- the first n words
+abbrev pub firstWords : List ℕ → ℕ → List ℕ
+firstWords b n = table n (wordAt b)
+
+-- loading: one word more
+pub load-step : (b w : List ℕ) (i : ℕ) → i < length w → take i w ≡ firstWords b i → take (i + 1) (set w i (wordAt b i)) ≡ firstWords b (i + 1)
+unfolding table
+load-step b w i h e = rw (add-one i, take-suc-set w i (wordAt b i) h, e)
+
+pub load-none : (b w : List ℕ) → take 0 w ≡ firstWords b 0
+unfolding table
+load-none b w = refl
+
+-- the four bytes from a place on
+four-more : (b : List ℕ) (n : ℕ) → 4 * n + 4 ≤ length b
+    → drop (4 * n) b ≡ getD b (4 * n) 0 ∷ getD b (4 * n + 1) 0 ∷ getD b (4 * n + 2) 0 ∷ getD b (4 * n + 3) 0 ∷ drop (4 * suc n) b
+four-more b n h =
+    let at = 4 * n in
+    one at (omega arith) ∙ ap (λ l. getD b at 0 ∷ l) (next 1 2 refl (omega arith) ∙ ap (λ l. getD b (at + 1) 0 ∷ l) (next 2 3 refl (omega arith) ∙ ap (λ l. getD b (at + 2) 0 ∷ l) (next 3 4 refl (omega arith)
+    ∙ ap (λ k. getD b (at + 3) 0 ∷ drop k b) (end n))))
+  where
+    one : (k : ℕ) → k < length b → drop k b ≡ getD b k 0 ∷ drop (k + 1) b
+    one k l = drop-cons b k 0 l ∙ ap (λ j. getD b k 0 ∷ drop j b) (sym (add-one k))
+
+    next : (k m : ℕ) → k + 1 ≡ m → 4 * n + k < length b → drop (4 * n + k) b ≡ getD b (4 * n + k) 0 ∷ drop (4 * n + m) b
+    next k m e l = one (4 * n + k) l ∙ ap (λ j. getD b (4 * n + k) 0 ∷ drop j b) (add-assoc (4 * n) k 1 ∙ ap (λ j. 4 * n + j) e)
+
+    end : (n : ℕ) → 4 * n + 4 ≡ 4 * suc n
+    end n = omega arith
+
+-- all words are the first n and those of the bytes behind them
+pub words-split : (b : List ℕ) (n : ℕ) → 4 * n ≤ length b → wordsOf b ≡ firstWords b n ++ wordsOf (drop (4 * n) b)
+unfolding wordsOf table
+words-split b zero h = refl
+words-split b (suc n) h =
+    words-split b n (omega arith)
+    ∙ ap (λ l. firstWords b n ++ wordsOf l) (four-more b n (omega arith))
+    ∙ sym (append-assoc (firstWords b n) (wordAt b n ∷ []) (wordsOf (drop (4 * suc n) b)))
+
+pub word-size : (x : ℕ) → length (wordBytes x) ≡ 4
+word-size x = refl
+
+-- bytes are below 256
+abbrev pub Byte : ℕ → Type 0
+Byte x = x < 256
+
+same-bytes : (a b c d : ℕ) → Byte a → Byte b → Byte c → Byte d → wordBytes (wordOf a b c d) ≡ a ∷ b ∷ c ∷ d ∷ []
+same-bytes a b c d ha hb hc hd =
+    let x = wordOf a b c d in
+    let p : x % 256 ≡ a = omega arith in
+    let q : x / 256 ≡ b + 256 * c + 65536 * d = omega arith in
+    let r : x / 65536 ≡ c + 256 * d = omega arith in
+    let s : x / 16777216 ≡ d = omega arith in
+    let i : (b + 256 * c + 65536 * d) % 256 ≡ b = omega arith in
+    let j : (c + 256 * d) % 256 ≡ c = omega arith in
+    let k : d % 256 ≡ d = omega arith in
+    rw (p, q, r, s, i, j, k)
+
+-- Bytes read as words and written back are the same bytes, those left over too.
+pub round-trip : (b : List ℕ) → All Byte b → over b (wordsOf b) ≡ b
+unfolding wordsOf over
+round-trip [] h = refl
+round-trip (x ∷ []) h = refl
+round-trip (x ∷ y ∷ []) h = refl
+round-trip (x ∷ y ∷ z ∷ []) h = refl
+round-trip (x ∷ y ∷ z ∷ u ∷ r) h =
+    let n = length (wordsOf r) in
+    let e : 4 * suc n ≡ suc (suc (suc (suc (4 * n)))) = omega arith in
+    ap (λ l. l ++ (bytesOf (wordsOf r) ++ drop (4 * suc n) (x ∷ y ∷ z ∷ u ∷ r))) (same-bytes x y z u (h .0) (h .1 .0) (h .1 .1 .0) (h .1 .1 .1 .0))
+    ∙ ap (λ k. x ∷ y ∷ z ∷ u ∷ (bytesOf (wordsOf r) ++ drop k (x ∷ y ∷ z ∷ u ∷ r))) e
+    ∙ ap (λ l. x ∷ y ∷ z ∷ u ∷ l) (round-trip r (h .1 .1 .1 .1))
+
+-- And words below 2^32 written as bytes are read as the same words: a call finds the record that the call before it left.
+same-word : (x : ℕ) → x < 2 ^ 32 → wordOf (x % 256) (x / 256 % 256) (x / 65536 % 256) (x / 16777216 % 256) ≡ x
+same-word x h =
+    let p : x ≡ x % 256 + 256 * (x / 256) = omega arith in
+    let q : x / 256 ≡ x / 256 % 256 + 256 * (x / 65536) = omega arith in
+    let r : x / 65536 ≡ x / 65536 % 256 + 256 * (x / 16777216) = omega arith in
+    let s : x / 16777216 % 256 ≡ x / 16777216 = omega arith in
+    omega (arith, p, q, r, s)
+
+pub words-back : (w t : List ℕ) → All (λ x. x < 2 ^ 32) w → wordsOf (bytesOf w ++ t) ≡ w ++ wordsOf t
+unfolding wordsOf
+words-back [] t h = refl
+words-back (x ∷ w) t h = rw (same-word x (h .0)) (ap (λ l. x ∷ l) (words-back w t (h .1)))
+
+pub all-drop : (n : ℕ) (b : List ℕ) → All Byte b → All Byte (drop n b)
+all-drop zero b h = h
+all-drop (suc n) [] h = h
+all-drop (suc n) (x ∷ b) h = all-drop n b (h .1)
+
+-- Words behind the record are written back as they were read: to write the record alone is the same.
+pub back : (b s : List ℕ) (n : ℕ) → All Byte b → length s ≡ n → over b (s ++ wordsOf (drop (4 * n) b)) ≡ over b s
+unfolding over
+back b s n h e =
+    let r = drop (4 * n) b in
+    let k : 4 * length (s ++ wordsOf r) ≡ 4 * n + 4 * length (wordsOf r) = simp length-append (omega arith) in
+    rw (flat-append wordBytes s (wordsOf r), k, ← drop-drop (4 * length (wordsOf r)) (4 * n) b, append-assoc)
+    (rw e (ap (λ l. bytesOf s ++ l) (round-trip r (all-drop (4 * n) b h))))
+
+-- writing: the first i of the words
+pub over-none : (b w : List ℕ) → b ≡ over b (take 0 w)
+unfolding over
+over-none b w = refl
+
+pub over-step : (b w : List ℕ) (i : ℕ) → i < length w → splice (over b (take i w)) (4 * i) (wordBytes (getD w i 0)) ≡ over b (take (i + 1) w)
+unfolding over
+over-step b w i h =
+    let e : 4 * i + 4 ≡ 4 * suc i = omega arith in
+    let k : length (take i w) ≡ i = length-take-le i w (omega arith) in
+    let l : length (bytesOf (take i w)) ≡ 4 * i = length-flat wordBytes 4 word-size (take i w) ∙ ap (λ n. 4 * n) k in
+    let m : length (take (suc i) w) ≡ suc i = length-take-le (suc i) w (omega arith) in
+    rw (add-one, m, k, take-suc w i 0 h, splice-at (bytesOf (take i w)) (drop (4 * i) b) (wordBytes (getD w i 0)) (4 * i) l, drop-drop 4 (4 * i) b, flat-append wordBytes (take i w) (getD w i 0 ∷ []), e)
+    (sym (append-assoc (bytesOf (take i w)) (wordBytes (getD w i 0)) (drop (4 * suc i) b)))
+
+-- So a call's result with the words behind the record leaves the same bytes as without them.
+module _ (b s : List ℕ) (n : ℕ) (h : All Byte b) (e : length s ≡ n) where
+  after : (o : Outcome) → bytesAfter b (s ++ wordsOf (drop (4 * n) b)) o ≡ bytesAfter b s o
+  unfolding bytesAfter
+  after (Refused k) = refl
+  after (Answered a) = back b s n h e
+
+  pub carried-first : (out : List ℕ) (o : Outcome)
+      → carried b out (with (wordsOf (drop (4 * n) b)) (record { outcome = o; slice = s })) ≡ carried b out (record { outcome = o; slice = s })
+  unfolding carried
+  carried-first out o = ap (λ l. record { code = refusal o; bytes = l; output = over out (outcomeWords o) }) (after o)

@@ -1,0 +1,3 @@
+pub mod First
+pub mod Carry
+pub mod Results

@@ -1,0 +1,137 @@
+-- What each call for C gives, question by question. Assumes nothing.
+use mathlib.Core.Path.{_≡_, refl, ap, sym, _∙_}
+use mathlib.Core.List.{List, [], _∷_, _++_, append-nil}
+use Prim.Native.Nat.{ℕ, _+_, _*_, _/_, _<_, _≤_}
+use native.Mathlib.Omega.{arith}
+use lib.ListN.{length, drop, length-drop, length-set, length-map, drop-of-length-le}
+use lib.Seq.{drop-at}
+use borrow.Author.Tests.{le-leb, lt-leb}
+use Rattle.lists.specs.Choice.{on-yes, on-no}
+use Rattle.lists.specs.Members.{All}
+use Rattle.lists.specs.Blocks.{length-table}
+use Rattle.protocol.specs.declared.Outcome.{Outcome}
+use Rattle.protocol.specs.declared.Outcome.the-variants.{Refused}
+use Rattle.protocol.specs.declared.Answer.the-variants.{Quiet}
+use Rattle.protocol.specs.Record.{mostNodes, mostMessages, recordSize, count, words}
+use Rattle.protocol.specs.Fresh.{fresh}
+use Rattle.protocol.specs.Step.{accepted}
+use Rattle.protocol.specs.declared.Ownership.the-variants.{Refused as OwnerRefused}
+use Rattle.protocol.specs.Answers.{refusal, outcomeWords, ownerRefusal, ownerWords}
+use Rattle.protocol.specs.Calls.{turnedDown, written, stepCall, freshCall, ownerCall}
+use Rattle.protocol.specs.Bytes.{wordsOf, over, bytesAfter, carried, founded, stepBytes, freshBytes, told, ownerBytes}
+use Rattle.layout.specs.Words.{length-words}
+use Rattle.layout.specs.Questions.{long-yes, long-no, record-1}
+use Rattle.ring_c.specs.First.{with, same-step, same-fresh, same-owner}
+use Rattle.ring_c.specs.Carry.{wordAt, firstWords, words-split, Byte, back, carried-first}
+
+-- fewer than four bytes hold no word
+few : (b : List ℕ) → length b < 4 → wordsOf b ≡ []
+unfolding wordsOf
+few [] h = refl
+few (a ∷ []) h = refl
+few (a ∷ b ∷ []) h = refl
+few (a ∷ b ∷ c ∷ []) h = refl
+few (a ∷ b ∷ c ∷ d ∷ r) h = absurd (omega arith)
+
+-- the words are the first ones, as many as there are
+pub words-all : (b : List ℕ) → wordsOf b ≡ firstWords b (length b / 4)
+words-all b =
+    let n = length b / 4 in
+    words-split b n (omega arith)
+    ∙ ap (λ l. firstWords b n ++ l) (few (drop (4 * n) b) (simp length-drop (omega arith)))
+    ∙ append-nil (firstWords b n)
+
+pub words-length : (b : List ℕ) → length (wordsOf b) ≡ length b / 4
+words-length b = ap length (words-all b) ∙ length-table (length b / 4) (wordAt b)
+
+-- a fresh ring has a row for each identifier, and no message
+fresh-count : (ids : List ℕ) → length ids ≤ mostNodes → count (fresh ids) ≤ mostNodes
+unfolding fresh
+fresh-count ids h = simp (length-set, length-map) (omega arith)
+
+fresh-quiet : (ids : List ℕ) → length (fresh ids .messages) ≤ mostMessages
+unfolding fresh
+fresh-quiet ids = omega arith
+
+module _ (b out : List ℕ) (operation x y : ℕ) where
+  pub step-17 : length out < 20 → stepBytes b operation x y out ≡ record { code = 17; bytes = b; output = out }
+  unfolding stepBytes
+  step-17 h = on-no _ _ _ (lt-leb 20 (length out) h)
+
+  pub step-1 : 20 ≤ length out → length b < 4 * recordSize → stepBytes b operation x y out ≡ record { code = 1; bytes = b; output = out }
+  unfolding stepBytes stepCall carried refusal outcomeWords bytesAfter over
+  step-1 h l =
+      on-yes _ _ _ (le-leb 20 (length out) h)
+      ∙ ap (carried b out) (record-1 (wordsOf b) (turnedDown (wordsOf b)) _ (omega (arith, words-length b)))
+
+  -- the step on the record alone, which leaves the words s
+  pub step-rest : All Byte b → 20 ≤ length out → 4 * recordSize ≤ length b → (o : Outcome) (s : List ℕ) → length s ≡ recordSize
+      → stepCall (firstWords b recordSize) operation x y ≡ record { outcome = o; slice = s }
+      → stepBytes b operation x y out ≡ carried b out (record { outcome = o; slice = s })
+  unfolding stepBytes
+  step-rest bytes h l o s e r =
+      let a = firstWords b recordSize in
+      let t = wordsOf (drop (4 * recordSize) b) in
+      on-yes _ _ _ (le-leb 20 (length out) h)
+      ∙ ap (λ w. carried b out (stepCall w operation x y)) (words-split b recordSize l)
+      ∙ ap (carried b out) (same-step a t (length-table recordSize (wordAt b)) operation x y ∙ ap (with t) r)
+      ∙ carried-first b s recordSize bytes e out o
+
+module _ (b ids : List ℕ) where
+  pub fresh-1 : length b < 4 * recordSize → freshBytes b ids ≡ record { code = 1; bytes = b }
+  unfolding freshBytes freshCall founded refusal bytesAfter
+  fresh-1 l = ap (founded b) (on-no _ _ _ (long-no (wordsOf b) (omega (arith, words-length b))))
+
+  pub fresh-13 : 4 * recordSize ≤ length b → mostNodes < length ids / 4 → freshBytes b ids ≡ record { code = 13; bytes = b }
+  unfolding freshBytes freshCall founded refusal bytesAfter
+  fresh-13 l h =
+      let n = length (wordsOf ids) in
+      ap (founded b) (on-yes _ _ _ (long-yes (wordsOf b) (omega (arith, words-length b)))
+      ∙ on-no _ _ _ (rw (lt-leb n mostNodes (omega (arith, words-length ids)), le-leb 1 n (omega (arith, words-length ids)))))
+
+  -- the call on any other 1,988 words z, which leaves the words s
+  pub fresh-rest : All Byte b → 4 * recordSize ≤ length b → length ids / 4 ≤ mostNodes → (z : List ℕ) → length z ≡ recordSize → (o : Outcome) (s : List ℕ)
+      → freshCall z (firstWords ids (length ids / 4)) ≡ record { outcome = o; slice = s }
+      → freshBytes b ids ≡ founded b (record { outcome = o; slice = s })
+  unfolding freshBytes founded refusal bytesAfter written
+  fresh-rest bytes l h z e o s r =
+      ap (λ i. founded b (freshCall (wordsOf b) i)) (words-all ids)
+      ∙ same-fresh (founded b) (wordsOf b) z i (omega (arith, words-length b)) (omega arith) refused-same accepted-same
+      ∙ ap (founded b) r
+    where
+      i : List ℕ
+      i = firstWords ids (length ids / 4)
+
+      refused-same : (k : ℕ) → founded b (turnedDown (wordsOf b) k) ≡ founded b (turnedDown z k)
+      refused-same k = refl
+
+      behind : drop recordSize (wordsOf b) ≡ wordsOf (drop (4 * recordSize) b)
+      behind = ap (drop recordSize) (words-split b recordSize l) ∙ drop-at (firstWords b recordSize) _ recordSize (length-table recordSize (wordAt b))
+
+      size : length (words (fresh i)) ≡ recordSize
+      size = length-words (fresh i) [] (fresh-count i (omega (arith, length-table (length ids / 4) (wordAt ids)))) (fresh-quiet i)
+
+      accepted-same : founded b (written (wordsOf b) (accepted Quiet (fresh i))) ≡ founded b (written z (accepted Quiet (fresh i)))
+      accepted-same =
+          ap (λ l. record { code = 0; bytes = over b (words (fresh i) ++ l) }) behind
+          ∙ ap (λ l. record { code = 0; bytes = l }) (back b (words (fresh i)) recordSize bytes size)
+          ∙ ap (λ l. record { code = 0; bytes = over b l }) (sym (append-nil (words (fresh i))) ∙ ap (λ l. words (fresh i) ++ l) (sym (drop-of-length-le z {i = recordSize} (omega arith))))
+
+module _ (b out : List ℕ) (number : ℕ) where
+  pub owner-17 : length out < 4 → ownerBytes b number out ≡ record { code = 17; output = out }
+  unfolding ownerBytes
+  owner-17 h = on-no _ _ _ (lt-leb 4 (length out) h)
+
+  pub owner-1 : 4 ≤ length out → length b < 4 * recordSize → ownerBytes b number out ≡ record { code = 1; output = out }
+  unfolding ownerBytes ownerCall told ownerRefusal ownerWords over
+  owner-1 h l =
+      on-yes _ _ _ (le-leb 4 (length out) h)
+      ∙ ap (told out) (record-1 (wordsOf b) OwnerRefused _ (omega (arith, words-length b)))
+
+  -- the query on the record alone
+  pub owner-rest : 4 ≤ length out → 4 * recordSize ≤ length b → ownerBytes b number out ≡ told out (ownerCall (firstWords b recordSize) number)
+  unfolding ownerBytes
+  owner-rest h l =
+      on-yes _ _ _ (le-leb 4 (length out) h)
+      ∙ ap (λ w. told out (ownerCall w number)) (words-split b recordSize l)
+      ∙ ap (told out) (same-owner (firstWords b recordSize) (wordsOf (drop (4 * recordSize) b)) (length-table recordSize (wordAt b)) number)

@@ -1,0 +1,63 @@
+// The ring for programs in C (document 01, 'Reading the ring'): the words travel as bytes, four a word, lowest first. Every length of
+// every lent slice is taken, and whatever is wrong is refused by its number. include/ring.h says the same to a C compiler.
+mod bytes;
+mod results;
+
+use crate::bytes::load;
+use crate::bytes::loaded;
+use crate::results::finish;
+use crate::results::finish_fresh;
+use crate::results::finish_owner;
+ghost use mathlib.Core.Path.{_≡_};
+ghost use Rattle.protocol.specs.Bytes.{stepBytes, ownerBytes, freshBytes};
+
+// One command on the record in the lent bytes. Only the record is loaded, since a step looks at nothing behind it.
+#[no_mangle]
+pub extern "C" fn ring_step(words: &mut [u8], operation: u32, x: u32, y: u32, out: &mut [u8]) -> u32
+    ensures { λ r. ⌜ stepBytes (now (words .entry)) operation x y (now (out .entry)) ≡ record { code = r; bytes = now (words .exit); output = now (out .exit) } ⌝ }
+{
+    if out.len() < 20 {
+        return 17;
+    }
+    if words.len() < 7952 {
+        return 1;
+    }
+    let mut w = loaded(&words[..]);
+    let r = steps::step(&mut w, operation, x, y);
+    finish(words, out, &w, r)
+}
+
+// The node that holds a number, by the record in the lent bytes, which are only read.
+#[no_mangle]
+pub extern "C" fn ring_owner(words: &[u8], number: u32, out: &mut [u8]) -> u32
+    ensures { λ r. ⌜ ownerBytes (now (words .entry)) number (now (out .entry)) ≡ record { code = r; output = now (out .exit) } ⌝ }
+{
+    if out.len() < 4 {
+        return 17;
+    }
+    if words.len() < 7952 {
+        return 1;
+    }
+    let w = loaded(words);
+    let r = queries::owner(&w, number);
+    finish_owner(out, r)
+}
+
+// A ring founded in the lent bytes. They are not loaded, since an accepted call writes the whole record.
+#[no_mangle]
+pub extern "C" fn ring_fresh(words: &mut [u8], identifiers: &[u8]) -> u32
+    ensures { λ r. ⌜ freshBytes (now (words .entry)) (now (identifiers .entry)) ≡ record { code = r; bytes = now (words .exit) } ⌝ }
+{
+    if words.len() < 7952 {
+        return 1;
+    }
+    let n = identifiers.len() / 4;
+    if 64 < n {
+        return 13;
+    }
+    let mut ids = [0u32; 64];
+    load(identifiers, &mut ids, n);
+    let mut w = [0u32; 1988];
+    let r = founding::fresh(&mut w, &ids[..n]);
+    finish_fresh(words, &w, r)
+}

@@ -1,0 +1,113 @@
+/*
+ * A small modem server: frames come in, one a line, are carried out on a record that this program owns, and answers go out.
+ * It speaks the frames of `ringrun`, and adds one of its own: 'O' and 8 digits ask who holds a number, and print the hub in 2 digits.
+ */
+#include <stdio.h>
+#include <string.h>
+
+#include "ring.h"
+
+#define LONGEST_FRAME 514 /* F0 and 64 identifiers of 8 digits */
+
+static uint8_t words[RING_RECORD_BYTES]; /* all 0 until a ring is founded: a command is then refused by 2 */
+
+static int digit(char c)
+{
+    if (c >= '0' && c <= '9') return c - '0';
+    if (c >= 'A' && c <= 'F') return c - 'A' + 10;
+    return -1;
+}
+
+/* Reads n digits. Answers whether they are digits. */
+static int number(const char *text, size_t n, uint32_t *value)
+{
+    *value = 0;
+    for (size_t i = 0; i < n; i++) {
+        int d = digit(text[i]);
+        if (d < 0) return 0;
+        *value = *value << 4 | (uint32_t)d;
+    }
+    return 1;
+}
+
+static void say_refused(uint32_t refusal)
+{
+    printf("EE%02X\n", (unsigned)refusal);
+}
+
+static void say_answer(const uint8_t *out)
+{
+    printf("%02X%02X%08X%08X%04X\n", (unsigned)ring_word(out, 0), (unsigned)ring_word(out, 1), (unsigned)ring_word(out, 2),
+           (unsigned)ring_word(out, 3), (unsigned)ring_word(out, 4));
+}
+
+/* 'F0' and identifiers of 8 digits. */
+static int found_ring(const char *line, size_t length)
+{
+    static const uint8_t quiet[RING_ANSWER_BYTES];
+    uint8_t identifiers[4 * RING_MOST_HUBS];
+    size_t count = (length - 2) / 8;
+    if ((length - 2) % 8 != 0) return 0;
+    for (size_t i = 0; i < count; i++) {
+        uint32_t v;
+        if (!number(line + 2 + 8 * i, 8, &v)) return 0;
+        for (size_t k = 0; k < 4; k++) identifiers[4 * i + k] = (uint8_t)(v >> 8 * k);
+    }
+    uint32_t refusal = ring_fresh(words, sizeof words, identifiers, 4 * count);
+    if (refusal != RING_OK) say_refused(refusal);
+    else say_answer(quiet);
+    return 1;
+}
+
+/* 2 digits of operation, 8 of x, 8 of y. */
+static int command(const char *line, size_t length)
+{
+    uint8_t out[RING_ANSWER_BYTES];
+    uint32_t operation, x, y;
+    if (length != 18 || !number(line, 2, &operation) || !number(line + 2, 8, &x) || !number(line + 10, 8, &y)) return 0;
+    uint32_t refusal = ring_step(words, sizeof words, operation, x, y, out, sizeof out);
+    if (refusal != RING_OK) say_refused(refusal);
+    else say_answer(out);
+    return 1;
+}
+
+static int owner(const char *line, size_t length)
+{
+    uint8_t out[RING_OWNER_BYTES];
+    uint32_t v;
+    if (length != 9 || !number(line + 1, 8, &v)) return 0;
+    uint32_t refusal = ring_owner(words, sizeof words, v, out, sizeof out);
+    if (refusal != RING_OK) say_refused(refusal);
+    else printf("%02X\n", (unsigned)ring_word(out, 0));
+    return 1;
+}
+
+static void answer(const char *line, size_t length)
+{
+    int readable = 0;
+    if (length <= LONGEST_FRAME) {
+        if (length >= 2 && memcmp(line, "F0", 2) == 0) readable = found_ring(line, length);
+        else if (length >= 1 && line[0] == 'O') readable = owner(line, length);
+        else readable = command(line, length);
+    }
+    if (!readable) puts("EEFF");
+}
+
+int main(void)
+{
+    char line[LONGEST_FRAME + 1]; /* one place more, so that a longer line is known by its length */
+    size_t length = 0;
+    int any = 0, c;
+    while ((c = getchar()) != EOF) {
+        if (c == '\n') {
+            answer(line, length);
+            length = 0;
+            any = 0;
+            continue;
+        }
+        any = 1;
+        if (length < sizeof line) line[length++] = (char)c;
+    }
+    if (any) answer(line, length); /* the last line may lack its LF */
+    return fflush(stdout) == 0 ? 0 : 1;
+}

@@ -1,0 +1,133 @@
+/*
+ * ring.h - the depot hub ring, for C and C++.
+ *
+ * A ring record is 1,988 words of 32 bits. Here it travels as bytes, four a word, lowest byte first, on every machine:
+ * RING_RECORD_BYTES bytes in memory of the caller's. Longer memory may be lent; what lies behind the record, and up to three bytes left
+ * over at the end, are neither read nor written.
+ *
+ * Each call returns RING_OK (0), or the number of the first question that was answered no. A refused call has written nothing.
+ *
+ * What the caller must ensure, and a proof cannot: each pointer is valid for the length that goes with it, for reading, and for writing
+ * where it is not const; two buffers of one call do not overlap; and nothing else reads or writes them while the call runs. A pointer must
+ * not be NULL, even where its length is 0: give any valid address. No pointer is kept after the call. The calls allocate nothing, hold no
+ * state of their own, and may run on many threads at once, each on its own buffers.
+ *
+ * A call needs less than 10 KiB of stack. Link with libring_c.a (`rt staticlib ring_c`, x86-64), which needs memcpy, memmove and memset and
+ * nothing else.
+ */
+#ifndef RING_H
+#define RING_H
+
+#include <stddef.h>
+#include <stdint.h>
+
+#ifdef __cplusplus
+extern "C" {
+#endif
+
+/* Sizes, in bytes. */
+#define RING_RECORD_BYTES 7952u /* a ring record: the least that `words` must have */
+#define RING_ANSWER_BYTES 20u   /* a step's answer: the least that `out` must have */
+#define RING_OWNER_BYTES 4u     /* the owner query's answer: the least that `out` must have */
+#define RING_MOST_HUBS 64u      /* the most identifiers, of four bytes each, that found a ring */
+
+/* What a call returns. The numbers are those of the ring's documents; 16 is the roll call's, which C does not make. */
+enum ring_code {
+    RING_OK = 0,
+    RING_RECORD_SHORT = 1,    /* `words` has fewer than RING_RECORD_BYTES bytes */
+    RING_NOT_WELL_FORMED = 2, /* the record is not one that ring_fresh and ring_step leave */
+    RING_NO_OPERATION = 3,    /* the operation is not one of enum ring_operation */
+    RING_NO_HUB = 4,          /* a hub number is not below the number of hubs */
+    RING_NOT_IN_RING = 5,     /* the hub is outside or still joining */
+    RING_NOT_OUTSIDE = 6,     /* join: the hub is not outside */
+    RING_LOCKED = 7,          /* leave: the hub is locked */
+    RING_LAST_HUB = 8,        /* leave: the hub is its own successor */
+    RING_NO_MESSAGE = 9,      /* deliver: no message waits between these hubs */
+    RING_NOT_EXPECTED = 10,   /* deliver: the receiver, or the joining hub, is not as the message needs */
+    RING_MESSAGES_FULL = 11,  /* 256 messages are waiting */
+    RING_TICKETS_USED_UP = 12, /* ask: all tickets were given */
+    RING_IDENTIFIER_COUNT = 13, /* fresh: not 1 to 64 identifiers */
+    RING_IDENTIFIER_TWICE = 14, /* fresh: two identifiers are equal */
+    RING_NO_HOLDER = 15,      /* owner: no hub holds the number */
+    RING_OUTPUT_SHORT = 17    /* `out` is too short: asked before anything else */
+};
+
+/* A step's operation, and what x and y are. */
+enum ring_operation {
+    RING_ASK = 0,    /* hub x is asked for the number y */
+    RING_JOIN = 1,   /* hub x joins through hub y */
+    RING_LEAVE = 2,  /* hub x leaves; y is not read */
+    RING_DELIVER = 3 /* the oldest message from hub x to hub y is delivered */
+};
+
+/* The kind of a step's answer, its first word. The other words are hub, number, ticket and hops; a word that a kind does not have is 0. */
+enum ring_answer {
+    RING_QUIET = 0,            /* nothing to tell */
+    RING_FOUND = 1,            /* hub, number, ticket, hops */
+    RING_ENTERED = 2,          /* the hub that now takes part */
+    RING_GONE = 3,             /* the hub that no longer does */
+    RING_JOIN_TURNED_AWAY = 4, /* the hub, outside again: it may try later */
+    RING_LEAVE_TURNED_AWAY = 5, /* the hub, still inside: it may try later */
+    RING_JOINED = 6,           /* the hub that finished its part in a join */
+    RING_LEFT = 7              /* the hub that is outside now */
+};
+
+/*
+ * ring_fresh - found a ring: hub 0 inside, the others outside, no message.
+ *
+ *   words, words_len              the record, written over; length in bytes
+ *   identifiers, identifiers_len  the hubs' identifiers, four bytes each, lowest first; length in bytes
+ *
+ * Returns RING_OK, RING_RECORD_SHORT, RING_IDENTIFIER_COUNT or RING_IDENTIFIER_TWICE.
+ */
+uint32_t ring_fresh(uint8_t *words, size_t words_len, const uint8_t *identifiers, size_t identifiers_len);
+
+/*
+ * ring_step - one command on the record.
+ *
+ *   words, words_len  the record, changed by an accepted step; length in bytes
+ *   operation, x, y   the command (enum ring_operation); any numbers may be given
+ *   out, out_len      gets the answer's five words in RING_ANSWER_BYTES bytes; bytes behind them stay as they are
+ *
+ * Returns RING_OK, RING_OUTPUT_SHORT, or a refusal from 1 to 12.
+ */
+uint32_t ring_step(uint8_t *words, size_t words_len, uint32_t operation, uint32_t x, uint32_t y, uint8_t *out, size_t out_len);
+
+/*
+ * ring_owner - the hub that holds a machine number; the lowest hub number if several do.
+ *
+ *   words, words_len  the record, only read; length in bytes
+ *   number            any number
+ *   out, out_len      gets the hub as one word in RING_OWNER_BYTES bytes; bytes behind it stay as they are
+ *
+ * Returns RING_OK, RING_OUTPUT_SHORT, RING_RECORD_SHORT, RING_NOT_WELL_FORMED or RING_NO_HOLDER.
+ */
+uint32_t ring_owner(const uint8_t *words, size_t words_len, uint32_t number, uint8_t *out, size_t out_len);
+
+/* ring_word - word i of a buffer of words: what an answer says, or any word of the record. */
+static inline uint32_t ring_word(const uint8_t *bytes, size_t i)
+{
+    const uint8_t *b = bytes + 4 * i;
+    return (uint32_t)b[0] | (uint32_t)b[1] << 8 | (uint32_t)b[2] << 16 | (uint32_t)b[3] << 24;
+}
+
+/*
+ * Example: a ring of hubs 100 and 200, of which hub 0 (identifier 100) is asked who owns 150.
+ *
+ *   static const uint8_t identifiers[] = {100, 0, 0, 0, 200, 0, 0, 0};
+ *   static uint8_t ring[RING_RECORD_BYTES];
+ *   uint8_t answer[RING_ANSWER_BYTES];
+ *   uint32_t code = ring_fresh(ring, sizeof ring, identifiers, sizeof identifiers);
+ *   if (code == RING_OK) {
+ *       code = ring_step(ring, sizeof ring, RING_ASK, 0, 150, answer, sizeof answer);
+ *   }
+ *   if (code == RING_OK && ring_word(answer, 0) == RING_FOUND) {
+ *       printf("hub %u\n", (unsigned)ring_word(answer, 1)); // hub 0
+ *   }
+ */
+
+#ifdef __cplusplus
+}
+#endif
+
+#endif
