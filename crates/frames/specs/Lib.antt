@@ -1,4 +1,5 @@
 pub mod Digits
+pub mod Examples
 pub mod Founding
 pub mod Lines
 pub mod Printing

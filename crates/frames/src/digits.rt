@@ -8,7 +8,7 @@ ghost use Rattle.lists.specs.Tests.{every};
 ghost use Rattle.protocol.specs.Frames.{isDigit, digitValue, read2 as read2Spec, read4 as read4Spec, read8 as read8Spec};
 
 // Upper case only: a lower case letter is no digit.
-pub fn is_digit(b: u8) -> bool
+fn is_digit(b: u8) -> bool
     ensures { λ r. ⌜ r ≡ isDigit b ⌝ }
 {
     either(both(48 <= b, b <= 57), both(65 <= b, b <= 70))

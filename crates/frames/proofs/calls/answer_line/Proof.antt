@@ -28,7 +28,10 @@ enum-known-frame : tie.Need-enum-known-frame
 enum-known-frame c = search needs
 
 found-requires : tie.Need-found-requires
-found-requires c κs = found-fits (c .before .before .before .before .before .before .before .args .line .now) (c .before .before .before .before .decode .result) (c .before .before .frame .given .0 .0) (c .before .before .before .before .decode .ensures) (c .before .before .frame .given .1)
+found-requires c κs =
+    let d = c .before .before .before .before .decode in
+    let g = c .before .before .frame .given in
+    found-fits (c .before .before .before .before .before .before .before .args .line .now) (d .result) (g .0 .0) (d .ensures) (g .1)
 
 outcome-line-requires : tie.Need-outcome-line-requires
 outcome-line-requires c κs = search needs
@@ -37,12 +40,16 @@ same-length : tie.Need-same-length
 same-length c = search needs
 
 returns : tie.Need-returns
-returns c = (
-  founding-line (c .before .before .before .before .before .before .before .before .before .before .before .args .w .now) (c .before .before .before .before .before .before .before .before .before .before .before .args .line .now) (c .before .before .before .before .before .before .before .before .decode .result) (c .before .before .before .before .before .before .before .before .decode .ensures) (c .before .before .before .found .result) (c .before .before .before .found .last .0) (c .outcome-line .result) (c .outcome-line .ensures .0)
-      (c .before .before .before .before .before .before .frame .given .0 .0) (c .before .before .before .before .before .before .frame .given .1) (c .before .before .before .found .ensures),
-  c .outcome-line .ensures .1,
-  c .outcome-line .ensures .2,
-)
+returns c =
+    let a = c .before .before .before .before .before .before .before .before .before .before .before .args in
+    let d = c .before .before .before .before .before .before .before .before .decode in
+    let g = c .before .before .before .before .before .before .frame .given in
+    let f = c .before .before .before .found in
+    let p = c .outcome-line in (
+      founding-line (a .w .now) (a .line .now) (d .result) (d .ensures) (f .result) (f .last .0) (p .result) (p .ensures .0) (g .0 .0) (g .1) (f .ensures),
+      p .ensures .1,
+      p .ensures .2,
+    )
 
 enum-known-frame-2 : tie.Need-enum-known-frame-2
 enum-known-frame-2 c = search needs
@@ -51,12 +58,14 @@ refusal-line-requires : tie.Need-refusal-line-requires
 refusal-line-requires c κs = search needs
 
 returns-2 : tie.Need-returns-2
-returns-2 c = (
-  unreadable-line (c .before .before .before .before .before .before .args .w .now) (c .before .before .before .before .before .before .args .line .now) (c .before .before .before .decode .result) (c .before .before .before .decode .ensures) (c .refusal-line .result)
-      (neither (c .before .before .before .decode .result) (c .before .before .match .keys2) (c .before .match2 .keys2)) (c .refusal-line .ensures .0),
-  c .refusal-line .ensures .1,
-  c .refusal-line .ensures .2,
-)
+returns-2 c =
+    let a = c .before .before .before .before .before .before .args in
+    let d = c .before .before .before .decode in
+    let p = c .refusal-line in (
+      unreadable-line (a .w .now) (a .line .now) (d .result) (d .ensures) (p .result) (neither (d .result) (c .before .before .match .keys2) (c .before .match2 .keys2)) (p .ensures .0),
+      p .ensures .1,
+      p .ensures .2,
+    )
 
 step-requires : tie.Need-step-requires
 step-requires c κs = search needs
@@ -69,11 +78,14 @@ same-length-2 c = search needs
 
 returns-3 : tie.Need-returns-3
 returns-3 c =
-    let g = c .before .before .before .before .before .before .frame2 .given in (
-      command-line (c .before .before .before .before .before .before .before .before .before .before .before .before .args .w .now) (c .before .before .before .before .before .before .before .before .before .before .before .before .args .line .now) (c .before .before .before .before .before .before .before .before .before .decode .result) (c .before .before .before .before .before .before .before .before .before .decode .ensures) (c .before .before .before .step .result) (c .before .before .before .step .last .0) (c .outcome-line2 .result) (c .outcome-line2 .ensures .0)
-          (g .0 .0) (g .0 .1 .0) (g .0 .1 .1 .0) (g .1) (c .before .before .before .step .ensures),
-      c .outcome-line2 .ensures .1,
-      c .outcome-line2 .ensures .2,
+    let a = c .before .before .before .before .before .before .before .before .before .before .before .before .args in
+    let d = c .before .before .before .before .before .before .before .before .before .decode in
+    let g = c .before .before .before .before .before .before .frame2 .given in
+    let s = c .before .before .before .step in
+    let p = c .outcome-line2 in (
+      command-line (a .w .now) (a .line .now) (d .result) (d .ensures) (s .result) (s .last .0) (p .result) (p .ensures .0) (g .0 .0) (g .0 .1 .0) (g .0 .1 .1 .0) (g .1) (s .ensures),
+      p .ensures .1,
+      p .ensures .2,
     )
 
 pub answer-line-spec : {M : Type 1} → statement M

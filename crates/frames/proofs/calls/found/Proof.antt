@@ -1,6 +1,6 @@
+-- `frames::calls::found` is the fresh call on the identifiers that are read. Assumes nothing.
 use Rattle.frames.specs.Founding.{length-identifiers}
 use mathlib.Core.Path.{ap, sym, _∙_}
--- `frames::calls::found` is the fresh call on the identifiers that are read. Assumes nothing.
 use lib.ListN.{length}
 use borrow.Author.Needs.{needs}
 use Rattle.frames.proofs.calls.found.Statement.{statement}

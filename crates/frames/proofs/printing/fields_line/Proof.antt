@@ -1,5 +1,5 @@
-use Rattle.frames.specs.Printing.{filled-is, length-filled}
 -- `frames::printing::fields_line`: five numbers put into 25 bytes of LF, which compute. Assumes nothing.
+use Rattle.frames.specs.Printing.{filled-is, length-filled}
 use borrow.Author.Needs.{needs}
 use Rattle.frames.proofs.printing.fields_line.Statement.{statement}
 use Rattle.frames.proofs.printing.fields_line.Tie as tie

@@ -1,4 +1,4 @@
--- `frames::printing::put2`: two bytes set are two bytes spliced. Assumes nothing.
+-- `frames::printing::put2`: two bytes set, one after the other. Assumes nothing.
 use Rattle.frames.specs.Printing.{put-two}
 use Rattle.protocol.specs.Frames.{print2}
 use borrow.Author.Needs.{needs}
