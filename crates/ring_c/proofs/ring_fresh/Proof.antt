@@ -13,10 +13,10 @@ use Rattle.ring_c.proofs.ring_fresh.Tie as tie
 use Rattle.ring_c.proofs.ring_fresh.Lts as lts
 
 returns : tie.Need-returns
-returns c = fresh-1 (c .before .before .before .args .words .now) (c .before .before .before .args .identifiers .now) (c .if1 .taken)
+returns c = fresh-1 (c .before .before .before .args .words .now) (c .before .before .before .args .identifiers .now) (omega arith)
 
 returns-2 : tie.Need-returns-2
-returns-2 c = fresh-13 (c .before .before .before .before .args .words .now) (c .before .before .before .before .args .identifiers .now) (c .before .if1 .left) (c .if2 .taken)
+returns-2 c = fresh-13 (c .before .before .before .before .args .words .now) (c .before .before .before .before .args .identifiers .now) (omega arith) (omega arith)
 
 slice-aggregate-load : tie.Need-slice-aggregate-load
 slice-aggregate-load c = search needs
@@ -50,7 +50,7 @@ returns-3 c =
     let a = c .before .before .before .before .before .before .before .before .before .before .before .before .before .before .before .before .args in
     let b = a .words .now in
     let bytes : All Byte b = all-at Byte b 0 (λ i h. omega (arith, c .before .before .before .before .before .before .before .before .before .before .before .before .before .before .before .slice-known .given i)) in
-    fresh-rest b (a .identifiers .now) bytes (c .before .before .before .before .before .before .before .before .before .before .before .before .before .if1 .left) (c .before .before .before .before .before .before .before .before .before .before .before .before .if2 .left) (replicate 1988 0) (length-replicate {A = ℕ} 1988 0) _ _
+    fresh-rest b (a .identifiers .now) bytes (omega arith) (omega arith) (replicate 1988 0) (length-replicate {A = ℕ} 1988 0) _ _
     (rw (c .before .before .before .before .before .before .before .before .before .before .load .ensures) at (c .before .before .before .before .before .before .fresh .ensures))
     ∙ c .before .before .finish-fresh .ensures
 

@@ -1,5 +1,6 @@
 -- `ring_owner` meets its contract: the query on the record is the query on all words. Assumes nothing.
 use mathlib.Core.Path.{_∙_}
+use native.Mathlib.Omega.{arith}
 use Rattle.ring_c.specs.Results.{owner-17, owner-1, owner-rest}
 use borrow.Author.Needs.{needs}
 use Rattle.ring_c.proofs.ring_owner.Statement.{statement}
@@ -7,10 +8,10 @@ use Rattle.ring_c.proofs.ring_owner.Tie as tie
 use Rattle.ring_c.proofs.ring_owner.Lts as lts
 
 returns : tie.Need-returns
-returns c = owner-17 (c .before .before .before .args .words .now) (c .before .before .before .args .out .now) (c .before .before .before .args .number) (c .if1 .taken)
+returns c = owner-17 (c .before .before .before .args .words .now) (c .before .before .before .args .out .now) (c .before .before .before .args .number) (omega arith)
 
 returns-2 : tie.Need-returns-2
-returns-2 c = owner-1 (c .before .before .before .before .args .words .now) (c .before .before .before .before .args .out .now) (c .before .before .before .before .args .number) (c .before .if1 .left) (c .if2 .taken)
+returns-2 c = owner-1 (c .before .before .before .before .args .words .now) (c .before .before .before .before .args .out .now) (c .before .before .before .before .args .number) (omega arith) (omega arith)
 
 loaded-requires : tie.Need-loaded-requires
 loaded-requires c κs = search needs
@@ -30,7 +31,7 @@ same-length c = search needs
 returns-3 : tie.Need-returns-3
 returns-3 c =
     let a = c .before .before .before .before .before .before .before .before .before .before .before .args in
-    owner-rest (a .words .now) (a .out .now) (a .number) (c .before .before .before .before .before .before .before .before .if1 .left) (c .before .before .before .before .before .before .before .if2 .left)
+    owner-rest (a .words .now) (a .out .now) (a .number) (omega arith) (omega arith)
     ∙ rw (← c .before .before .before .before .before .before .loaded .ensures, ← c .before .before .before .before .owner .ensures) (c .before .before .finish-owner .ensures)
 
 pub ring-owner-spec : {M : Type 1} → statement M

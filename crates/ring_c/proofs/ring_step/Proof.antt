@@ -10,10 +10,10 @@ use Rattle.ring_c.proofs.ring_step.Tie as tie
 use Rattle.ring_c.proofs.ring_step.Lts as lts
 
 returns : tie.Need-returns
-returns c = let a = c .before .before .before .args in step-17 (a .words .now) (a .out .now) (a .operation) (a .x) (a .y) (c .if1 .taken)
+returns c = let a = c .before .before .before .args in step-17 (a .words .now) (a .out .now) (a .operation) (a .x) (a .y) (omega arith)
 
 returns-2 : tie.Need-returns-2
-returns-2 c = let a = c .before .before .before .before .args in step-1 (a .words .now) (a .out .now) (a .operation) (a .x) (a .y) (c .before .if1 .left) (c .if2 .taken)
+returns-2 c = let a = c .before .before .before .before .args in step-1 (a .words .now) (a .out .now) (a .operation) (a .x) (a .y) (omega arith) (omega arith)
 
 loaded-requires : tie.Need-loaded-requires
 loaded-requires c κs = search needs
@@ -41,7 +41,7 @@ returns-3 c =
     let a = c .before .before .before .before .before .before .before .before .before .before .before .before .before .before .before .before .before .args in
     let b = a .words .now in
     let bytes : All Byte b = all-at Byte b 0 (λ i h. omega (arith, c .before .before .before .before .before .before .before .before .before .before .before .before .before .before .before .before .slice-known .given i)) in
-    step-rest b (a .out .now) (a .operation) (a .x) (a .y) bytes (c .before .before .before .before .before .before .before .before .before .before .before .before .before .before .if1 .left) (c .before .before .before .before .before .before .before .before .before .before .before .before .before .if2 .left) _ _ (search needs)
+    step-rest b (a .out .now) (a .operation) (a .x) (a .y) bytes (omega arith) (omega arith) _ _ (search needs)
     (rw (c .before .before .before .before .before .before .before .before .before .before .before .loaded .ensures) at (c .before .before .before .before .before .before .before .before .before .step .ensures))
     ∙ c .before .before .before .before .finish .ensures
 

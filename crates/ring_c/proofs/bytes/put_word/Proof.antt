@@ -27,7 +27,7 @@ cast-p-4 : tie.Need-cast-p-4
 cast-p-4 c = search needs
 
 slice-write-p-4 : tie.Need-slice-write-p-4
-slice-write-p-4 c = search needs
+slice-write-p-4 c = simp length-set (omega arith)
 
 same-length : tie.Need-same-length
 same-length c = search needs
