@@ -1,6 +1,6 @@
 -- What the writing loops leave, that it is a fresh ring, and what questions 13 and 14 say. Assumes nothing.
 use mathlib.Core.Path.{_≡_, refl, ap, sym, _∙_}
-use mathlib.Core.Bool.{true, not, _&&_}
+use mathlib.Core.Bool.{true, _&&_}
 use mathlib.Core.List.{List, [], _∷_, _++_, append-assoc, append-nil, map, map-append}
 use Prim.Native.Nat.{ℕ, suc, _+_, _-_, _*_, _≤_, _<_}
 use native.Mathlib.Numerals.{add-one}
@@ -8,11 +8,9 @@ use native.Mathlib.Omega.{arith}
 use lib.Dec.{leb, eqb}
 use lib.ListN.{length, take, drop, getD, set, replicate, length-append, length-replicate, length-map, take-append-drop, replicate-append-replicate}
 use lib.Seq.{drop-cons, drop-drop, set-at, append-snoc, take-suc, take-length, length-take-le}
-use Rattle.lists.specs.Choice.{if_then_else_}
 use Rattle.lists.specs.Tests.{true-T, says-and, says-le, distinct}
-use Rattle.lists.specs.Merge.{merged, merged-distinct}
 use Rattle.lists.specs.Splice.{splice, splice-at, drop-pad}
-use Rattle.lists.specs.Blocks.{table-of, flat, flat-append, length-flat}
+use Rattle.lists.specs.Blocks.{table, table-of, flat, flat-append, length-flat}
 use Rattle.protocol.specs.Record.{form, mostNodes, rowSize, rowStart, recordSize, rowWords, unusedRowWords, unusedMessageWords, State, words, outside}
 use Rattle.protocol.specs.Fresh.{alone, fresh, founder}
 use Rattle.layout.specs.Words.{row-size}
@@ -104,9 +102,5 @@ fresh-is ids w l h =
 pub some-few : (n : ℕ) → (leb 1 n && leb n mostNodes) ≡ true → (1 ≤ n) × (n ≤ mostNodes)
 some-few n e = says-and (says-le 1 n) (says-le n mostNodes) .to (true-T (leb 1 n && leb n mostNodes) e)
 
-pub differ : (ids : List ℕ) (r : ℕ) → r ≡ merged (length ids) (λ i. merged i (λ j. if not (eqb (getD ids j 0) (getD ids i 0)) then 0 else 1))
-    → eqb r 0 ≡ distinct ids
-differ ids r e =
-    ap (λ z. eqb z 0) e
-    ∙ merged-distinct (λ i. getD ids i 0) (length ids)
-    ∙ ap distinct (table-of ids 0 (λ i. getD ids i 0) (length ids) (omega arith) (λ i h. refl) ∙ take-length ids)
+pub differ : (ids : List ℕ) (r : ℕ) → eqb r 0 ≡ distinct (table (length ids) (λ i. getD ids i 0)) → eqb r 0 ≡ distinct ids
+differ ids r e = e ∙ ap distinct (table-of ids 0 (λ i. getD ids i 0) (length ids) (omega arith) (λ i h. refl) ∙ take-length ids)

@@ -1,5 +1,6 @@
 // Who founds a ring, and the row that it then has.
 use protocol::Row;
+use protocol::form::NONE;
 ghost use mathlib.Core.Path.{_≡_};
 ghost use Rattle.protocol.specs.Fresh.{alone, founder};
 
@@ -21,6 +22,6 @@ pub fn alone_row(node: u32, identifier: u32) -> Row
         flag: 0,
         pred: node,
         succ: node,
-        oldpred: 255,
+        oldpred: NONE,
     }
 }

@@ -6,6 +6,7 @@ use crate::writing::write_fresh;
 use lists::both;
 use protocol::Answer;
 use protocol::Outcome;
+use protocol::form::RECORD_WORDS;
 use wellformed::repeated;
 ghost use mathlib.Core.Path.{_≡_};
 ghost use Rattle.protocol.specs.Calls.{freshCall};
@@ -14,7 +15,7 @@ ghost use Rattle.protocol.specs.Calls.{freshCall};
 pub fn fresh(w: &mut [u32], identifiers: &[u32]) -> Outcome
     ensures { λ r. ⌜ freshCall (now (w .entry)) (now (identifiers .entry)) ≡ record { outcome = r; slice = now (w .exit) } ⌝ }
 {
-    if w.len() < 1988 {
+    if w.len() < RECORD_WORDS {
         return Outcome::Refused(1);
     }
     if !both(1 <= identifiers.len(), identifiers.len() <= 64) {

@@ -1,7 +1,8 @@
 // The words of a fresh ring, written over whatever the slice came with.
 use crate::founder::alone_row;
 use crate::founder::founding_node;
-use protocol::Row;
+use protocol::form::FORM;
+use protocol::form::RECORD_WORDS;
 use record::put_row;
 ghost use mathlib.Core.Path.{_≡_};
 ghost use mathlib.Core.List.{_++_, map};
@@ -24,20 +25,6 @@ fn clear(w: &mut [u32], n: usize)
     }
 }
 
-fn outside_row(identifier: u32) -> Row
-    ensures { λ r. ⌜ r ≡ outside identifier ⌝ }
-{
-    Row {
-        identifier,
-        state: 0,
-        lock: 0,
-        flag: 0,
-        pred: 255,
-        succ: 255,
-        oldpred: 255,
-    }
-}
-
 // Every node starts outside, the founder too: it gets its own row afterwards, so that this loop has no case.
 fn put_rows(w: &mut [u32], identifiers: &[u32])
     requires { ⌜ (length (now identifiers) ≤ mostNodes) × (recordSize ≤ length (now w)) ⌝ }
@@ -47,7 +34,7 @@ fn put_rows(w: &mut [u32], identifiers: &[u32])
     while i < identifiers.len() {
         let node = i as u32;
         let identifier = identifiers[i];
-        put_row(w, node, outside_row(identifier));
+        put_row(w, node, record::outside_row(identifier));
         i += 1;
     }
 }
@@ -57,8 +44,8 @@ pub fn write_fresh(w: &mut [u32], identifiers: &[u32])
     requires { ⌜ (1 ≤ length (now identifiers)) × (length (now identifiers) ≤ mostNodes) × (recordSize ≤ length (now w)) ⌝ }
     ensures { λ _. ⌜ now (w .exit) ≡ words (fresh (now (identifiers .entry))) ++ drop recordSize (now (w .entry)) ⌝ }
 {
-    clear(w, 1988);
-    w[0] = 1;
+    clear(w, RECORD_WORDS);
+    w[0] = FORM;
     w[1] = identifiers.len() as u32;
     put_rows(w, identifiers);
     let node = founding_node(identifiers);

@@ -40,3 +40,13 @@ pub fn failure(test: bool) -> u32
     }
     1
 }
+
+// The number where the test passes, else 0: a failure that counts only then.
+pub fn when(test: bool, x: u32) -> u32
+    ensures { λ r. ⌜ r ≡ (if test then x else 0) ⌝ }
+{
+    if test {
+        return x;
+    }
+    0
+}

@@ -1,4 +1,5 @@
 // The values of the ring protocol. Their meaning is in specs/, in the order of document 01.
+pub mod form;
 pub mod kinds;
 
 // A node of the ring (document 01: a hub) has a number below the node count, and this row of seven

@@ -1,5 +1,6 @@
 // The owner query: 'does some hub hold the number? 15 (the lowest hub number if several).'
 use protocol::Ownership;
+use protocol::form::RECORD_WORDS;
 use record::identifier_of;
 use record::row_of;
 use routing::covers;
@@ -44,7 +45,7 @@ fn first_holder(w: &[u32], v: u32) -> u32
 pub fn owner(w: &[u32], number: u32) -> Ownership
     ensures { λ r. ⌜ r ≡ ownerCall (now (w .entry)) number ⌝ }
 {
-    if w.len() < 1988 {
+    if w.len() < RECORD_WORDS {
         return Ownership::Refused(1);
     }
     if !wellformed::well_formed(w) {

@@ -1,5 +1,7 @@
 // The roll call: 'A roll call from a hub is that hub followed by the roll of its successor, until the start returns'.
 use protocol::Roll;
+use protocol::form::NONE;
+use protocol::form::RECORD_WORDS;
 use record::row_of;
 use routing::in_ring;
 ghost use mathlib.Core.Path.{_≡_};
@@ -51,7 +53,7 @@ fn roll(w: &[u32], start: u32, left: u32, node: u32, output: &mut [u32], at: u32
     if next == start {
         return put_last(output, at, node);
     }
-    if next == 255 {
+    if next == NONE {
         return Roll::Refused(16);
     }
     let rest = roll(w, start, left - 1, next, output, at + 1);
@@ -77,7 +79,7 @@ fn roll_from(w: &[u32], node: u32, output: &mut [u32]) -> Roll
 pub fn roll_call(w: &[u32], node: u32, output: &mut [u32]) -> Roll
     ensures { λ r. ⌜ rollCall (now (w .entry)) node (now (output .entry)) ≡ record { outcome = r; output = now (output .exit) } ⌝ }
 {
-    if w.len() < 1988 {
+    if w.len() < RECORD_WORDS {
         return Roll::Refused(1);
     }
     if !wellformed::well_formed(w) {

@@ -1,4 +1,7 @@
 // The hub row: 'handed out as the seven words inside the caller's record'.
+use protocol::form::RECORD_WORDS;
+use protocol::form::ROW_WORDS;
+use protocol::form::ROWS_AT;
 ghost use mathlib.Core.Path.{_≡_};
 ghost use Rattle.protocol.specs.Calls.{rowCall};
 ghost use Rattle.layout.specs.Form.{Valid};
@@ -9,8 +12,8 @@ fn row_part(w: &[u32], node: u32) -> &[u32]
     ensures { λ r. ⌜ now r ≡ rowCall (now (w .entry)) node ⌝ }
 {
     if node < w[1] {
-        let at = 4 + 7 * (node as usize);
-        let end = at + 7;
+        let at = ROWS_AT + ROW_WORDS * (node as usize);
+        let end = at + ROW_WORDS;
         return &w[at..end];
     }
     &w[0..0]
@@ -20,7 +23,7 @@ fn row_part(w: &[u32], node: u32) -> &[u32]
 pub fn hub_row(w: &[u32], node: u32) -> &[u32]
     ensures { λ r. ⌜ now r ≡ rowCall (now (w .entry)) node ⌝ }
 {
-    if w.len() < 1988 {
+    if w.len() < RECORD_WORDS {
         return &w[0..0];
     }
     if wellformed::well_formed(w) {

@@ -1,4 +1,6 @@
 use protocol::Message;
+use protocol::form::MESSAGE_WORDS;
+use protocol::form::MESSAGES_AT;
 ghost use mathlib.Core.Path.{_≡_};
 ghost use Prim.Native.Nat.{_+_, _*_, _≤_, _<_};
 ghost use lib.ListN.{length};
@@ -31,7 +33,7 @@ pub fn find(w: &[u32], x: u32, y: u32) -> u32
     let m = w[2];
     let mut j: u32 = 0;
     while j < m {
-        let at = 452 + 6 * (j as usize);
+        let at = MESSAGES_AT + MESSAGE_WORDS * (j as usize);
         if lists::both(w[at + 1] == x, w[at + 2] == y) {
             return j;
         }
@@ -58,7 +60,7 @@ pub fn push(w: &mut [u32], n: u32, m: Message)
     requires { ⌜ (n < mostMessages) × (recordSize ≤ length (now w)) ⌝ }
     ensures { λ _. ⌜ now (w .exit) ≡ pushed (now (w .entry)) n m ⌝ }
 {
-    let at = 452 + 6 * (n as usize);
+    let at = MESSAGES_AT + MESSAGE_WORDS * (n as usize);
     write_message(&mut w[at..], m);
     w[2] = n + 1;
 }
@@ -70,7 +72,7 @@ fn shift(part: &mut [u32], n: usize)
 {
     let mut k = 0;
     while k < n {
-        part[k] = part[k + 6];
+        part[k] = part[k + MESSAGE_WORDS];
         k += 1;
     }
 }
@@ -99,8 +101,8 @@ pub fn remove(w: &mut [u32], n: u32, j: u32)
     requires { ⌜ (j < n) × (n ≤ mostMessages) × (recordSize ≤ length (now w)) ⌝ }
     ensures { λ _. ⌜ now (w .exit) ≡ removed (now (w .entry)) n j ⌝ }
 {
-    let at = 452 + 6 * (j as usize);
-    let len = 6 * ((n - 1 - j) as usize);
+    let at = MESSAGES_AT + MESSAGE_WORDS * (j as usize);
+    let len = MESSAGE_WORDS * ((n - 1 - j) as usize);
     close_up(&mut w[at..], len);
     w[2] = n - 1;
 }

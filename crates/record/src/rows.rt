@@ -1,9 +1,12 @@
 use protocol::Row;
+use protocol::form::NONE;
+use protocol::form::ROW_WORDS;
+use protocol::form::ROWS_AT;
 ghost use mathlib.Core.Path.{_≡_};
 ghost use Prim.Native.Nat.{_+_, _*_, _≤_, _<_};
 ghost use lib.ListN.{length};
 ghost use lib.Seq.{sets};
-ghost use Rattle.protocol.specs.Record.{mostNodes, rowSize, rowStart, recordSize, countIn, rowWords, rowFrom, read, row, identifier};
+ghost use Rattle.protocol.specs.Record.{mostNodes, rowSize, rowStart, recordSize, countIn, rowWords, rowFrom, read, row, identifier, outside};
 ghost use Rattle.layout.specs.Edits.{rowPut};
 
 // The row whose first word is at a place.
@@ -22,23 +25,30 @@ pub fn row_at(w: &[u32], at: usize) -> Row
     }
 }
 
+// A row of a node outside the ring: 'outside, unlocked, flag 0, all pointers none'.
+pub fn outside_row(identifier: u32) -> Row
+    ensures { λ r. ⌜ r ≡ outside identifier ⌝ }
+{
+    Row {
+        identifier,
+        state: 0,
+        lock: 0,
+        flag: 0,
+        pred: NONE,
+        succ: NONE,
+        oldpred: NONE,
+    }
+}
+
 // The row of a node; a number that is no node's, such as 'none', counts as outside.
 pub fn row_of(w: &[u32], node: u32) -> Row
     requires { ⌜ (recordSize ≤ length (now w)) × (countIn (now w) ≤ mostNodes) ⌝ }
     ensures { λ r. ⌜ r ≡ row (read (now (w .entry))) node ⌝ }
 {
     if node < w[1] {
-        return row_at(w, 4 + 7 * (node as usize));
+        return row_at(w, ROWS_AT + ROW_WORDS * (node as usize));
     }
-    Row {
-        identifier: 0,
-        state: 0,
-        lock: 0,
-        flag: 0,
-        pred: 255,
-        succ: 255,
-        oldpred: 255,
-    }
+    outside_row(0)
 }
 
 // The identifier of a node; of a number that is no node's, such as 'none', 0.
@@ -47,7 +57,7 @@ pub fn identifier_of(w: &[u32], node: u32) -> u32
     ensures { λ r. ⌜ r ≡ identifier (read (now (w .entry))) node ⌝ }
 {
     if node < w[1] {
-        return w[4 + 7 * (node as usize)];
+        return w[ROWS_AT + ROW_WORDS * (node as usize)];
     }
     0
 }
@@ -71,6 +81,6 @@ pub fn put_row(w: &mut [u32], node: u32, h: Row)
     requires { ⌜ rowStart node + rowSize ≤ length (now w) ⌝ }
     ensures { λ _. ⌜ now (w .exit) ≡ rowPut (now (w .entry)) node h ⌝ }
 {
-    let at = 4 + 7 * (node as usize);
+    let at = ROWS_AT + ROW_WORDS * (node as usize);
     edit_row(&mut w[at..], h);
 }

@@ -1,4 +1,5 @@
 // Words out of bytes, and into bytes. The loops have no way out but their end, so that the compiler can take many words at a time.
+use protocol::form::RECORD_WORDS;
 ghost use mathlib.Core.Path.{_≡_};
 ghost use Prim.Native.Nat.{_+_, _*_, _≤_, _<_};
 ghost use lib.ListN.{length, take};
@@ -35,12 +36,12 @@ pub(crate) fn load(b: &[u8], w: &mut [u32], n: usize)
 }
 
 // The record, and nothing that is behind it.
-pub(crate) fn loaded(b: &[u8]) -> [u32; 1988]
+pub(crate) fn loaded(b: &[u8]) -> [u32; RECORD_WORDS]
     requires { ⌜ 4 * recordSize ≤ length (now b) ⌝ }
     ensures { λ r. ⌜ r ≡ firstWords (now (b .entry)) recordSize ⌝ }
 {
-    let mut w = [0u32; 1988];
-    load(b, &mut w, 1988);
+    let mut w = [0u32; RECORD_WORDS];
+    load(b, &mut w, RECORD_WORDS);
     w
 }
 

@@ -8,6 +8,8 @@ use crate::bytes::loaded;
 use crate::results::finish;
 use crate::results::finish_fresh;
 use crate::results::finish_owner;
+use protocol::form::RECORD_BYTES;
+use protocol::form::RECORD_WORDS;
 ghost use mathlib.Core.Path.{_≡_};
 ghost use Rattle.protocol.specs.Bytes.{stepBytes, ownerBytes, freshBytes};
 
@@ -19,7 +21,7 @@ pub extern "C" fn ring_step(words: &mut [u8], operation: u32, x: u32, y: u32, ou
     if out.len() < 20 {
         return 17;
     }
-    if words.len() < 7952 {
+    if words.len() < RECORD_BYTES {
         return 1;
     }
     let mut w = loaded(&words[..]);
@@ -35,7 +37,7 @@ pub extern "C" fn ring_owner(words: &[u8], number: u32, out: &mut [u8]) -> u32
     if out.len() < 4 {
         return 17;
     }
-    if words.len() < 7952 {
+    if words.len() < RECORD_BYTES {
         return 1;
     }
     let w = loaded(words);
@@ -48,7 +50,7 @@ pub extern "C" fn ring_owner(words: &[u8], number: u32, out: &mut [u8]) -> u32
 pub extern "C" fn ring_fresh(words: &mut [u8], identifiers: &[u8]) -> u32
     ensures { λ r. ⌜ freshBytes (now (words .entry)) (now (identifiers .entry)) ≡ record { code = r; bytes = now (words .exit) } ⌝ }
 {
-    if words.len() < 7952 {
+    if words.len() < RECORD_BYTES {
         return 1;
     }
     let n = identifiers.len() / 4;
@@ -57,7 +59,7 @@ pub extern "C" fn ring_fresh(words: &mut [u8], identifiers: &[u8]) -> u32
     }
     let mut ids = [0u32; 64];
     load(identifiers, &mut ids, n);
-    let mut w = [0u32; 1988];
+    let mut w = [0u32; RECORD_WORDS];
     let r = founding::fresh(&mut w, &ids[..n]);
     finish_fresh(words, &w, r)
 }

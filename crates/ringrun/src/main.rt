@@ -7,6 +7,7 @@ use crate::lines::end_line;
 use crate::lines::flush;
 use crate::lines::take_bytes;
 use libc::STDIN_FILENO;
+use protocol::form::RECORD_WORDS;
 ghost use Prim.Native.Nat.{_≤_};
 ghost use lib.ListN.{length};
 
@@ -71,7 +72,7 @@ fn run(w: &mut [u32], line: &mut [u8], out: &mut [u8], input: &mut [u8])
 
 // 'Before any founding the record is all 0.'
 fn main() {
-    let mut record = [0u32; 1988];
+    let mut record = [0u32; RECORD_WORDS];
     let mut line = [0u8; 515];
     let mut out = io::large_buffer();
     let mut input = io::large_buffer();

@@ -8,7 +8,6 @@ mod ways;
 pub use lookups::lookup;
 pub use messages::note;
 pub use messages::question;
-pub use rows::NONE;
 pub use rows::in_ring;
 pub use rows::responsible;
 pub use ways::covers;

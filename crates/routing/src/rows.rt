@@ -3,9 +3,6 @@ use protocol::Row;
 ghost use mathlib.Core.Path.{_≡_};
 ghost use Rattle.protocol.specs.Routing.{inRing, responsible as responsibleSpec};
 
-// 'Pointers are hub numbers, 255 for none.'
-pub const NONE: u32 = 255;
-
 // 'state 2 to 4': inside, wanting to leave, or leaving.
 pub fn in_ring(h: Row) -> bool
     ensures { λ r. ⌜ r ≡ inRing h ⌝ }

@@ -1,4 +1,5 @@
-// What a decision does to the words. It is the only place where a step writes, and a refusal is made before anything is written.
+// What a decision does to the words. Ask apart, which writes its ticket and its question itself (asks.rt), it is the only place where a step
+// writes, and a refusal is made before anything is written.
 use protocol::Decision;
 use protocol::Outcome;
 ghost use mathlib.Core.Path.{_≡_};

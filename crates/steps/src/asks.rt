@@ -2,6 +2,7 @@
 use protocol::Answer;
 use protocol::Outcome;
 use protocol::Route;
+use protocol::form::MOST_MESSAGES;
 use routing::in_ring;
 use routing::onward;
 use routing::question;
@@ -30,7 +31,7 @@ fn asking(w: &mut [u32], x: u32, v: u32, way: Route) -> Outcome
         }
         Route::To(z) => {
             let m = w[2];
-            if m < 256 {
+            if m < MOST_MESSAGES {
                 record::push(w, m, question(x, z, v, ticket, 0));
                 w[3] = ticket + 1;
                 return Outcome::Answered(Answer::Quiet);

@@ -5,6 +5,9 @@ use lists::both;
 use protocol::Answer;
 use protocol::Decision;
 use protocol::Outcome;
+use protocol::form::MESSAGE_WORDS;
+use protocol::form::MESSAGES_AT;
+use protocol::form::MOST_MESSAGES;
 use protocol::kinds;
 use routing::in_ring;
 use routing::note;
@@ -31,7 +34,7 @@ pub(crate) fn join(w: &mut [u32], x: u32, y: u32) -> Outcome
     if !in_ring(record::row_of(w, y)) {
         return Outcome::Refused(5);
     }
-    if m < 256 {
+    if m < MOST_MESSAGES {
         h.state = 1;
         h.lock = 1;
         return settle(
@@ -63,7 +66,7 @@ pub(crate) fn leave(w: &mut [u32], x: u32) -> Outcome
     if h.succ == x {
         return Outcome::Refused(8);
     }
-    if m < 256 {
+    if m < MOST_MESSAGES {
         h.state = 3;
         h.lock = 1;
         return settle(
@@ -88,7 +91,7 @@ pub(crate) fn deliver(w: &mut [u32], x: u32, y: u32) -> Outcome
     }
     let j = record::find(w, x, y);
     if j < m {
-        let u = record::message_at(w, 452 + 6 * (j as usize));
+        let u = record::message_at(w, MESSAGES_AT + MESSAGE_WORDS * (j as usize));
         let h = record::row_of(w, y);
         let p = record::identifier_of(w, h.pred);
         let g = record::row_of(w, u.a);

@@ -3,6 +3,7 @@ use crate::commands::deliver;
 use crate::commands::join;
 use crate::commands::leave;
 use protocol::Outcome;
+use protocol::form::RECORD_WORDS;
 ghost use mathlib.Core.Path.{_≡_};
 ghost use Rattle.protocol.specs.Record.{read};
 ghost use Rattle.protocol.specs.Step.{step as stepSpec};
@@ -28,7 +29,7 @@ fn run(w: &mut [u32], operation: u32, x: u32, y: u32) -> Outcome
 pub fn step(w: &mut [u32], operation: u32, x: u32, y: u32) -> Outcome
     ensures { λ r. ⌜ stepCall (now (w .entry)) operation x y ≡ record { outcome = r; slice = now (w .exit) } ⌝ }
 {
-    if w.len() < 1988 {
+    if w.len() < RECORD_WORDS {
         return Outcome::Refused(1);
     }
     if !wellformed::well_formed(w) {

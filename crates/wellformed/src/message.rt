@@ -1,40 +1,51 @@
+// What is wrong with a message, as a number that is 0 where nothing is: failures merged by `|` cost the loop over the messages less than tests
+// put together.
 use lists::both;
 use lists::either;
-use lists::pick;
+use lists::failure;
+use lists::when;
 use protocol::Message;
+use protocol::kinds;
 ghost use mathlib.Core.Path.{_≡_};
+ghost use mathlib.Core.Bool.{_&&_};
+ghost use lib.Dec.{leb, ltb, eqb};
 ghost use Rattle.protocol.specs.WellFormed.{namesNode, aOk, bOk, hopsOk, messageOk};
 
 // Whether a is a node in a message of this kind: JOIN, JOINPOINT, NEWSUCCACK and LEAVEPOINT.
 fn names_node(kind: u32) -> bool
     ensures { λ r. ⌜ r ≡ namesNode kind ⌝ }
 {
-    either(either(either(kind == 2, kind == 4), kind == 6), kind == 11)
+    either(
+        either(
+            either(kind == kinds::JOIN, kind == kinds::JOINPOINT),
+            kind == kinds::NEWSUCCACK,
+        ),
+        kind == kinds::LEAVEPOINT,
+    )
 }
 
-fn a_ok(n: u32, m: Message) -> bool
-    ensures { λ r. ⌜ r ≡ aOk n m ⌝ }
+// 'kinds 1 to 14; from and to below n'
+fn bad_ends(n: u32, m: Message) -> u32
+    ensures { λ r. ⌜ eqb r 0 ≡ (leb 1 (m .kind) && ltb (m .kind) 15 && ltb (m .from) n && ltb (m .to) n) ⌝ }
 {
-    either(m.kind == 1, pick(names_node(m.kind), m.a < n, m.a == 0))
+    failure(both(1 <= m.kind, m.kind < 15)) | failure(m.from < n) | failure(m.to < n)
 }
 
-fn b_ok(asked: u32, m: Message) -> bool
-    ensures { λ r. ⌜ r ≡ bOk asked m ⌝ }
+// 'LOOKUP has any a, b below asked and hops at most 65535; JOIN, .. have a below n; other message fields are 0'
+fn bad_fields(n: u32, asked: u32, m: Message) -> u32
+    ensures { λ r. ⌜ eqb r 0 ≡ (aOk n m && bOk asked m && hopsOk m) ⌝ }
 {
-    pick(m.kind == 1, m.b < asked, m.b == 0)
+    let names = names_node(m.kind);
+    let lookup = failure(m.b < asked) | (m.hops / 65536);
+    let others = m.b | m.hops | when(!names, m.a);
+    when(m.kind == kinds::LOOKUP, lookup)
+        | when(names, failure(m.a < n))
+        | when(m.kind != kinds::LOOKUP, others)
 }
 
-fn hops_ok(m: Message) -> bool
-    ensures { λ r. ⌜ r ≡ hopsOk m ⌝ }
+// 0 for a message of a ring of n nodes with so many questions asked.
+pub fn bad_message(n: u32, asked: u32, m: Message) -> u32
+    ensures { λ r. ⌜ eqb r 0 ≡ messageOk n asked m ⌝ }
 {
-    pick(m.kind == 1, m.hops <= 65535, m.hops == 0)
-}
-
-// A message of a ring of n nodes with so many questions asked.
-pub fn message_ok(n: u32, asked: u32, m: Message) -> bool
-    ensures { λ r. ⌜ r ≡ messageOk n asked m ⌝ }
-{
-    let kind = both(1 <= m.kind, m.kind < 15);
-    let ends = both(both(kind, m.from < n), m.to < n);
-    both(both(both(ends, a_ok(n, m)), b_ok(asked, m)), hops_ok(m))
+    bad_ends(n, m) | bad_fields(n, asked, m)
 }

@@ -1,13 +1,14 @@
 use lists::both;
 use lists::pick;
 use protocol::Row;
+use protocol::form::NONE;
 ghost use mathlib.Core.Path.{_≡_};
 ghost use Rattle.protocol.specs.WellFormed.{pointersOk, lockOk, flagOk, rowOk};
 
 fn pointers_ok(n: u32, h: Row) -> bool
     ensures { λ r. ⌜ r ≡ pointersOk n h ⌝ }
 {
-    let unlinked = both(h.pred == 255, h.succ == 255);
+    let unlinked = both(h.pred == NONE, h.succ == NONE);
     let linked = both(both(h.state < 5, h.pred < n), h.succ < n);
     pick(h.state < 2, unlinked, linked)
 }
@@ -26,7 +27,7 @@ fn flag_ok(n: u32, h: Row) -> bool
         both(both(h.flag == 1, h.state == 2), h.lock == 1),
         h.oldpred < n,
     );
-    pick(h.flag == 0, h.oldpred == 255, raised)
+    pick(h.flag == 0, h.oldpred == NONE, raised)
 }
 
 // A row of a ring of n nodes.

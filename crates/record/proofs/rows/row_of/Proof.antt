@@ -20,10 +20,13 @@ row-at-requires c κs = search needs
 returns : tie.Need-returns
 returns c = let a = c .before .before .before .before .args in c .row-at .ensures ∙ sym (row-of-read (a .w .now) (a .node) (c .before .if1 .taken))
 
+outside-row-requires : tie.Need-outside-row-requires
+outside-row-requires c κs = search needs
+
 returns-2 : tie.Need-returns-2
-returns-2 c = sym (row-beyond (c .before .before .before .args .w .now) (c .before .before .before .args .node) (c .if1 .left))
+returns-2 c = let a = c .before .before .before .before .args in c .outside-row .ensures ∙ sym (row-beyond (a .w .now) (a .node) (c .before .if1 .left))
 
 pub row-of-spec : {M : Type 1} → statement M
 row-of-spec =
     tie.close
-    (tie.spec shared-slice-read-if1 mul-row-at add-row-at row-at-requires returns returns-2)
+    (tie.spec shared-slice-read-if1 mul-row-at add-row-at row-at-requires returns outside-row-requires returns-2)

@@ -16,41 +16,42 @@ mul-messages c = search needs
 add-messages : tie.Need-add-messages
 add-messages c = search needs
 
-mul-merged-words : tie.Need-mul-merged-words
-mul-merged-words c = search needs
+mul-bad-zeros : tie.Need-mul-bad-zeros
+mul-bad-zeros c = search needs
 
-sub-merged-words : tie.Need-sub-merged-words
-sub-merged-words c = search needs
+sub-bad-zeros : tie.Need-sub-bad-zeros
+sub-bad-zeros c = search needs
 
-part-merged-words-start : tie.Need-part-merged-words-start
-part-merged-words-start c = search needs
+part-bad-zeros-start : tie.Need-part-bad-zeros-start
+part-bad-zeros-start c = search needs
 
-part-merged-words-end : tie.Need-part-merged-words-end
-part-merged-words-end c = search needs
+part-bad-zeros-end : tie.Need-part-bad-zeros-end
+part-bad-zeros-end c = search needs
 
-merged-words-requires : tie.Need-merged-words-requires
-merged-words-requires c κs = search needs
+bad-zeros-requires : tie.Need-bad-zeros-requires
+bad-zeros-requires c κs = search needs
 
-mul-merged-words-2 : tie.Need-mul-merged-words-2
-mul-merged-words-2 c = search needs
+mul-bad-zeros-2 : tie.Need-mul-bad-zeros-2
+mul-bad-zeros-2 c = search needs
 
-sub-merged-words-2 : tie.Need-sub-merged-words-2
-sub-merged-words-2 c = search needs
+sub-bad-zeros-2 : tie.Need-sub-bad-zeros-2
+sub-bad-zeros-2 c = search needs
 
-part-merged-words-start-2 : tie.Need-part-merged-words-start-2
-part-merged-words-start-2 c = search needs
+part-bad-zeros-start-2 : tie.Need-part-bad-zeros-start-2
+part-bad-zeros-start-2 c = search needs
 
-part-merged-words-end-2 : tie.Need-part-merged-words-end-2
-part-merged-words-end-2 c = search needs
+part-bad-zeros-end-2 : tie.Need-part-bad-zeros-end-2
+part-bad-zeros-end-2 c = search needs
 
-merged-words-requires-2 : tie.Need-merged-words-requires-2
-merged-words-requires-2 c κs = search needs
+bad-zeros-requires-2 : tie.Need-bad-zeros-requires-2
+bad-zeros-requires-2 c κs = search needs
 
 returns : tie.Need-returns
 returns c =
-    let a = c .before .before .before .before .before .args in
-    let p = c .before .before .before .before .before .pre in
-    unused-law (a .w .now) (a .n) (a .m) (p .0) (p .1) (p .2) (p .3) _ _ (c .before .before .merged-words .ensures) (c .merged-words2 .ensures)
+    let s = c .before .before .before .before .before in
+    let a = s .args in
+    let p = s .pre in
+    unused-law (a .w .now) (a .n) (a .m) (p .0) (p .1) (p .2) (p .3) (c .before .before .bad-zeros .result) (c .bad-zeros2 .result) (c .before .before .bad-zeros .ensures) (c .bad-zeros2 .ensures)
 
 pub bad-unused-spec : {M : Type 1} → statement M
 bad-unused-spec =
@@ -60,14 +61,14 @@ bad-unused-spec =
     add-rows
     mul-messages
     add-messages
-    mul-merged-words
-    sub-merged-words
-    part-merged-words-start
-    part-merged-words-end
-    merged-words-requires
-    mul-merged-words-2
-    sub-merged-words-2
-    part-merged-words-start-2
-    part-merged-words-end-2
-    merged-words-requires-2
+    mul-bad-zeros
+    sub-bad-zeros
+    part-bad-zeros-start
+    part-bad-zeros-end
+    bad-zeros-requires
+    mul-bad-zeros-2
+    sub-bad-zeros-2
+    part-bad-zeros-start-2
+    part-bad-zeros-end-2
+    bad-zeros-requires-2
     returns)

@@ -1,0 +1,23 @@
+// The form of a record (document 01, 'Ring record'): how many words, and where rows and messages stand. specs/Record.antt has the same
+// numbers, and every proof holds the two together.
+pub const FORM: u32 = 1;
+
+pub const RECORD_WORDS: usize = 1988;
+
+// The same as bytes, four a word.
+pub const RECORD_BYTES: usize = 7952;
+
+pub const ROWS_AT: usize = 4;
+
+pub const ROW_WORDS: usize = 7;
+
+pub const MOST_NODES: u32 = 64;
+
+pub const MESSAGES_AT: usize = 452;
+
+pub const MESSAGE_WORDS: usize = 6;
+
+pub const MOST_MESSAGES: u32 = 256;
+
+// 'Pointers are hub numbers, 255 for none.'
+pub const NONE: u32 = 255;
