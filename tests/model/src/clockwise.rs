@@ -3,7 +3,7 @@
 
 /// Distance clockwise from `a` to `b`: b - a modulo 4294967296.
 ///
-/// Computed in 64 bits from the paper's formula, so that it does not lean on
+/// Computed in 64 bits from document 01's formula, so that it does not lean on
 /// the wrap-around of any machine word.
 pub fn distance(a: u32, b: u32) -> u32 {
     let circle: u64 = 1 << 32;

@@ -2,7 +2,7 @@
 //! receiver does (document 01, 'Each kind below names what t, the receiver,
 //! must be').
 //!
-//! Throughout, t is the receiver and f the sender, as in the paper.
+//! Throughout, t is the receiver and f the sender, as in document 01.
 
 use crate::answer::{self, Answer};
 use crate::record::{

@@ -1,7 +1,7 @@
 //! A plain model of the depot hub ring of document 01, for differential tests.
 //!
-//! It is meant to be read beside that paper and run beside an engine: each
-//! rule stands here once, in the paper's order, with no thought for speed.
+//! It is meant to be read beside document 01 and run beside an engine: each
+//! rule stands here once, in its order, with no thought for speed.
 //! It shares no code with any engine.
 
 #![forbid(unsafe_code)]
