@@ -1,0 +1,79 @@
+//! The calls under test, as a value: the engine's, or the engine's with a fault planted in front of
+//! it.
+
+use ring_model::answer::Answer;
+use ring_model::bytes::{ANSWER_BYTES, NO_REFUSAL};
+use ring_model::record::RECORD_WORDS;
+use ring_model::witness::StepCall;
+
+use crate::engine;
+
+/// Bytes of a record.
+pub const RECORD_BYTES: usize = 4 * RECORD_WORDS;
+
+/// The calls of one engine.
+#[derive(Clone, Copy)]
+pub struct Calls {
+    /// `ring_fresh`.
+    pub fresh: fn(&mut [u8], &[u8]) -> u32,
+    /// `ring_step`.
+    pub step: fn(&mut [u8], u32, u32, u32, &mut [u8]) -> u32,
+    /// `ring_owner`.
+    pub owner: fn(&[u8], u32, &mut [u8]) -> u32,
+    /// The step on words, as the model's witness calls it.
+    pub word_step: StepCall,
+    /// Where `ringrun` is, seen from the repository's folder.
+    pub ringrun: &'static str,
+}
+
+/// The engine itself.
+pub const ENGINE: Calls = Calls {
+    fresh: engine::fresh,
+    step: engine::step,
+    owner: engine::owner,
+    word_step: engine_word_step,
+    ringrun: "target/bin/ringrun",
+};
+
+/// The engine's step on a record of words.
+fn engine_word_step(words: &mut [u32], operation: u32, x: u32, y: u32) -> Result<Answer, u32> {
+    let mut bytes: Vec<u8> = words.iter().flat_map(|word| word.to_le_bytes()).collect();
+    let mut out = [0; ANSWER_BYTES];
+    let code = engine::step(&mut bytes, operation, x, y, &mut out);
+    if code != NO_REFUSAL {
+        return Err(code);
+    }
+    for (i, word) in words.iter_mut().enumerate() {
+        *word = word_at(&bytes, i);
+    }
+    Ok(answer_of(&out))
+}
+
+/// Word i of bytes, lowest byte first.
+pub fn word_at(bytes: &[u8], i: usize) -> u32 {
+    let four = &bytes[4 * i..4 * i + 4];
+    u32::from_le_bytes([four[0], four[1], four[2], four[3]])
+}
+
+/// Puts word i.
+pub fn put_word(bytes: &mut [u8], i: usize, word: u32) {
+    bytes[4 * i..4 * i + 4].copy_from_slice(&word.to_le_bytes());
+}
+
+/// Writes words from the first byte on.
+pub fn put_words(bytes: &mut [u8], words: &[u32]) {
+    for (four, word) in bytes.chunks_exact_mut(4).zip(words) {
+        four.copy_from_slice(&word.to_le_bytes());
+    }
+}
+
+/// The answer in an output of five words.
+pub fn answer_of(out: &[u8]) -> Answer {
+    Answer {
+        kind: word_at(out, 0),
+        hub: word_at(out, 1),
+        number: word_at(out, 2),
+        ticket: word_at(out, 3),
+        hops: word_at(out, 4),
+    }
+}

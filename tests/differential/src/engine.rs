@@ -1,0 +1,48 @@
+//! The engine's three C calls, as functions on slices. This is the only file with `unsafe`.
+#![allow(unsafe_code)]
+
+extern "C" {
+    fn ring_fresh(
+        words: *mut u8,
+        words_len: usize,
+        identifiers: *const u8,
+        identifiers_len: usize,
+    ) -> u32;
+    fn ring_step(
+        words: *mut u8,
+        words_len: usize,
+        operation: u32,
+        x: u32,
+        y: u32,
+        out: *mut u8,
+        out_len: usize,
+    ) -> u32;
+    fn ring_owner(
+        words: *const u8,
+        words_len: usize,
+        number: u32,
+        out: *mut u8,
+        out_len: usize,
+    ) -> u32;
+}
+
+/// Founds a ring.
+pub fn fresh(words: &mut [u8], identifiers: &[u8]) -> u32 {
+    // SAFETY: both slices are valid for their lengths, the borrows keep them apart, and no pointer
+    // is kept.
+    unsafe { ring_fresh(words.as_mut_ptr(), words.len(), identifiers.as_ptr(), identifiers.len()) }
+}
+
+/// Makes one step.
+pub fn step(words: &mut [u8], operation: u32, x: u32, y: u32, out: &mut [u8]) -> u32 {
+    // SAFETY: as for fresh.
+    unsafe {
+        ring_step(words.as_mut_ptr(), words.len(), operation, x, y, out.as_mut_ptr(), out.len())
+    }
+}
+
+/// Asks for the node that holds a key.
+pub fn owner(words: &[u8], key: u32, out: &mut [u8]) -> u32 {
+    // SAFETY: as for fresh; the record is only read.
+    unsafe { ring_owner(words.as_ptr(), words.len(), key, out.as_mut_ptr(), out.len()) }
+}

@@ -1,0 +1,211 @@
+//! Faults planted in front of the engine: each must be seen by the part that is there for it. So
+//! the test itself is tested: a comparison that says nothing would let these pass.
+
+use std::cell::Cell;
+
+use ring_model::bytes::{ANSWER_BYTES, NO_REFUSAL, OWNER_BYTES};
+use ring_model::queries::holds;
+use ring_model::record::State;
+use ring_model::refusal::{
+    IDENTIFIERS_REPEAT, LINK_EMPTY, NOT_AS_REQUIRED, NOT_WELL_FORMED, OUTPUT_SHORT, RECORD_SHORT,
+};
+use ring_model::Answer;
+
+use crate::calls::{answer_of, put_word, word_at, Calls, ENGINE, RECORD_BYTES};
+use crate::engine;
+use crate::parts::PARTS;
+use crate::reached::Reached;
+
+/// A seldom fault shows in one of so many calls.
+const SELDOM: u64 = 3000;
+/// Batches that are tried until a fault is seen.
+const BATCHES: u64 = 400;
+
+thread_local! {
+    static CALLS: Cell<u64> = const { Cell::new(0) };
+}
+
+/// Whether a seldom fault shows in this call.
+fn seldom() -> bool {
+    CALLS.with(|calls| {
+        calls.set(calls.get() + 1);
+        calls.get() % SELDOM == 0
+    })
+}
+
+/// A wrong engine, and the part that must see it.
+pub struct Fault {
+    /// What is wrong.
+    pub name: &'static str,
+    part: &'static str,
+    calls: Calls,
+}
+
+type Step = fn(&mut [u8], u32, u32, u32, &mut [u8]) -> u32;
+
+/// Wrong steps: what is wrong, the part that must see it, and the step.
+const STEPS: [(&str, &str, Step); 10] = [
+    ("an answer's last byte differs, seldom", "runs", answer_differs),
+    ("a byte of the record differs, seldom", "runs", record_differs),
+    ("a byte behind the record is written, seldom", "runs", writes_behind),
+    ("a refused step writes its output, seldom", "runs", writes_when_refused),
+    ("an accepted step writes no answer, seldom", "runs", writes_no_answer),
+    ("a message that waits is refused, seldom", "runs", refuses_delivery),
+    ("9 where it should be 10", "unreachable", link_empty),
+    ("hops go on behind 65535", "unreachable", hops_go_on),
+    ("the record's last word is not looked at", "damaged", last_word_unseen),
+    ("17 is asked after 1", "lengths", output_asked_late),
+];
+
+/// All planted faults.
+pub fn faults() -> Vec<Fault> {
+    let steps = STEPS.iter().map(|&(name, part, step)| Fault {
+        name,
+        part,
+        calls: Calls { step, ..ENGINE },
+    });
+    steps.chain(other_faults()).collect()
+}
+
+/// Wrong calls other than steps.
+fn other_faults() -> [Fault; 6] {
+    let fault = |name, part, calls| Fault { name, part, calls };
+    let witness = Calls { word_step: refuses_words, ..ENGINE };
+    let owner = Calls { owner: highest_holder, ..ENGINE };
+    let repeated = Calls { fresh: repeated_pass, ..ENGINE };
+    let left_over = Calls { fresh: reads_left_over, ..ENGINE };
+    let echo = Calls { ringrun: "cat", ..ENGINE };
+    let silent = Calls { ringrun: "true", ..ENGINE };
+    [
+        fault("a delivery of the witness is refused, seldom", "witnessed", witness),
+        fault("the highest holder", "unreachable", owner),
+        fault("repeated identifiers pass", "founding", repeated),
+        fault("left-over bytes are read", "founding", left_over),
+        fault("a program that prints its input", "ringrun", echo),
+        fault("a program that prints nothing", "ringrun", silent),
+    ]
+}
+
+impl Fault {
+    /// Whether the part sees it.
+    pub fn is_seen(&self, seed: u64) -> bool {
+        let mut parts = PARTS.iter().filter(|part| part.name == self.part);
+        parts.any(|part| {
+            (0..BATCHES)
+                .any(|number| part.run(seed, number, self.calls, &mut Reached::default()).is_err())
+        })
+    }
+}
+
+fn answer_differs(words: &mut [u8], operation: u32, x: u32, y: u32, out: &mut [u8]) -> u32 {
+    let code = engine::step(words, operation, x, y, out);
+    if code == NO_REFUSAL && seldom() {
+        out[ANSWER_BYTES - 1] ^= 1;
+    }
+    code
+}
+
+fn record_differs(words: &mut [u8], operation: u32, x: u32, y: u32, out: &mut [u8]) -> u32 {
+    let code = engine::step(words, operation, x, y, out);
+    if seldom() {
+        words[RECORD_BYTES - 1] ^= 0x80;
+    }
+    code
+}
+
+fn writes_behind(words: &mut [u8], operation: u32, x: u32, y: u32, out: &mut [u8]) -> u32 {
+    let code = engine::step(words, operation, x, y, out);
+    if words.len() > RECORD_BYTES && seldom() {
+        words[RECORD_BYTES] ^= 1;
+    }
+    code
+}
+
+fn writes_when_refused(words: &mut [u8], operation: u32, x: u32, y: u32, out: &mut [u8]) -> u32 {
+    let code = engine::step(words, operation, x, y, out);
+    if code != NO_REFUSAL && seldom() {
+        out[0] ^= 1;
+    }
+    code
+}
+
+fn writes_no_answer(words: &mut [u8], operation: u32, x: u32, y: u32, out: &mut [u8]) -> u32 {
+    if seldom() {
+        return engine::step(words, operation, x, y, &mut [0; ANSWER_BYTES]);
+    }
+    engine::step(words, operation, x, y, out)
+}
+
+/// Only on the copies on which deliveries are tried: they alone have no byte too many.
+fn refuses_delivery(words: &mut [u8], operation: u32, x: u32, y: u32, out: &mut [u8]) -> u32 {
+    if operation == 3 && words.len() == RECORD_BYTES && seldom() {
+        return NOT_AS_REQUIRED;
+    }
+    engine::step(words, operation, x, y, out)
+}
+
+fn refuses_words(words: &mut [u32], operation: u32, x: u32, y: u32) -> Result<Answer, u32> {
+    if seldom() {
+        return Err(NOT_AS_REQUIRED);
+    }
+    (ENGINE.word_step)(words, operation, x, y)
+}
+
+fn link_empty(words: &mut [u8], operation: u32, x: u32, y: u32, out: &mut [u8]) -> u32 {
+    match engine::step(words, operation, x, y, out) {
+        NOT_AS_REQUIRED => LINK_EMPTY,
+        code => code,
+    }
+}
+
+fn hops_go_on(words: &mut [u8], operation: u32, x: u32, y: u32, out: &mut [u8]) -> u32 {
+    let code = engine::step(words, operation, x, y, out);
+    if code == NO_REFUSAL && answer_of(out).hops == 65535 {
+        put_word(out, 4, 65536);
+    }
+    code
+}
+
+/// What lies in the last word does not count.
+fn last_word_unseen(words: &mut [u8], operation: u32, x: u32, y: u32, out: &mut [u8]) -> u32 {
+    let code = engine::step(words, operation, x, y, out);
+    if code != NOT_WELL_FORMED {
+        return code;
+    }
+    let last = RECORD_BYTES / 4 - 1;
+    let word = word_at(words, last);
+    put_word(words, last, 0);
+    let code = engine::step(words, operation, x, y, out);
+    put_word(words, last, word);
+    code
+}
+
+fn output_asked_late(words: &mut [u8], operation: u32, x: u32, y: u32, out: &mut [u8]) -> u32 {
+    match engine::step(words, operation, x, y, out) {
+        OUTPUT_SHORT if words.len() < RECORD_BYTES => RECORD_SHORT,
+        code => code,
+    }
+}
+
+fn highest_holder(words: &[u8], key: u32, out: &mut [u8]) -> u32 {
+    let code = engine::owner(words, key, out);
+    let record: Vec<u32> = (0..words.len() / 4).map(|i| word_at(words, i)).collect();
+    if let (Ok(state), NO_REFUSAL) = (State::read(&record), code) {
+        let highest = (0..state.n()).rev().find(|&node| holds(&state, node, key));
+        put_word(&mut out[..OWNER_BYTES], 0, highest.unwrap_or(0));
+    }
+    code
+}
+
+fn repeated_pass(words: &mut [u8], identifiers: &[u8]) -> u32 {
+    match engine::fresh(words, identifiers) {
+        IDENTIFIERS_REPEAT => NO_REFUSAL,
+        code => code,
+    }
+}
+
+fn reads_left_over(words: &mut [u8], identifiers: &[u8]) -> u32 {
+    let mut longer = identifiers.to_vec();
+    longer.resize(identifiers.len().div_ceil(4) * 4, 0);
+    engine::fresh(words, &longer)
+}

@@ -1,0 +1,152 @@
+//! The engine beside the model of document 01: the C calls on lent bytes, and `ringrun`, on random
+//! and on hostile input. Every returned number, every byte of record and output, and the bytes
+//! around them are compared; runs from fresh are held to demand 3 as well.
+//!
+//! Usage, from the repository's folder: `differential SEED SECONDS`, or `differential SEED 0 PART
+//! BATCH` to run one batch again.
+
+#![deny(unsafe_code)]
+#![warn(missing_docs)]
+
+mod calls;
+mod claims;
+mod damaged;
+mod driver;
+mod engine;
+mod faults;
+mod identifiers;
+mod lengths;
+mod lent;
+mod pair;
+mod parts;
+mod program;
+mod reached;
+mod ring;
+mod runs;
+mod schedule;
+mod scripts;
+mod states;
+mod trail;
+mod unreachable;
+mod wrong_claims;
+
+use std::env;
+use std::process::ExitCode;
+use std::time::{Duration, Instant};
+
+use crate::calls::ENGINE;
+use crate::parts::PARTS;
+use crate::reached::Reached;
+use crate::schedule::{run_all, Report};
+
+/// From so many calls on, everything must have been reached.
+const ENOUGH: u64 = 1_000_000;
+
+/// Tests that passed and failed.
+#[derive(Default)]
+struct Score {
+    passed: u32,
+    failed: u32,
+}
+
+impl Score {
+    fn note(&mut self, passed: bool) {
+        self.passed += u32::from(passed);
+        self.failed += u32::from(!passed);
+    }
+
+    fn end(&self) -> ExitCode {
+        println!("{} passed, {} failed", self.passed, self.failed);
+        ExitCode::from(u8::from(self.failed > 0))
+    }
+}
+
+fn main() -> ExitCode {
+    let arguments: Vec<String> = env::args().skip(1).collect();
+    let numbers: Vec<Option<u64>> = arguments.iter().map(|text| text.parse().ok()).collect();
+    match numbers[..] {
+        [Some(seed), Some(seconds)] => all(seed, seconds),
+        [Some(seed), Some(_), None, Some(batch)] => one(seed, &arguments[2], batch),
+        _ => usage(),
+    }
+}
+
+/// Faults planted on purpose: each must be seen, or the parts that follow prove nothing.
+fn planted(seed: u64, score: &mut Score) {
+    let mut cases = wrong_claims::cases();
+    cases.extend(faults::faults().iter().map(|fault| (fault.name, fault.is_seen(seed))));
+    println!("{} planted faults", cases.len());
+    for (name, seen) in cases {
+        if !seen {
+            println!("FAILED: a planted fault was not seen: {name}");
+        }
+        score.note(seen);
+    }
+}
+
+/// The planted faults, all parts, then what they reached.
+fn all(seed: u64, seconds: u64) -> ExitCode {
+    let mut score = Score::default();
+    println!("seed {seed}, {seconds} seconds");
+    planted(seed, &mut score);
+    let start = Instant::now();
+    let reports = run_all(seed, Duration::from_secs(seconds));
+    let took = start.elapsed().as_secs_f64();
+    let mut sum = Reached::default();
+    for (part, report) in PARTS.iter().zip(&reports) {
+        sum.add(&report.reached);
+        println!("{}", line(part.name, report));
+        for difference in &report.differences {
+            println!("{difference}");
+        }
+        // A part that made no batch has shown nothing.
+        score.note(report.differences.is_empty() && report.batches > 0);
+    }
+    println!(
+        "in all: {} calls, {:.0} a second, and {} lines",
+        sum.calls,
+        sum.calls as f64 / took,
+        sum.lines
+    );
+    print!("reached:\n{}", sum.table());
+    if sum.calls >= ENOUGH {
+        let missing = sum.missing();
+        if !missing.is_empty() {
+            println!("FAILED: never reached: {}", missing.join(", "));
+        }
+        score.note(missing.is_empty());
+    }
+    score.end()
+}
+
+/// One part's line.
+fn line(name: &str, report: &Report) -> String {
+    let Report { reached, batches, time, .. } = report;
+    let (calls, tried, lines) = (reached.calls, reached.tried, reached.lines);
+    let rate = (calls + lines) as f64 / time.as_secs_f64().max(0.001);
+    let counts = match (tried, lines) {
+        (0, 0) => format!("{calls} calls"),
+        (_, 0) => format!("{calls} calls, {tried} deliveries tried on copies"),
+        _ => format!("{lines} lines"),
+    };
+    format!("{name}: {batches} batches, {counts}; {rate:.0} a second and thread")
+}
+
+/// One batch again.
+fn one(seed: u64, name: &str, batch: u64) -> ExitCode {
+    let mut score = Score::default();
+    let Some(part) = PARTS.iter().find(|part| part.name == name) else {
+        return usage();
+    };
+    let result = part.run(seed, batch, ENGINE, &mut Reached::default());
+    if let Err(difference) = &result {
+        println!("{difference}");
+    }
+    score.note(result.is_ok());
+    score.end()
+}
+
+fn usage() -> ExitCode {
+    eprintln!("usage: differential SEED SECONDS [PART BATCH]");
+    ExitCode::from(2)
+}
