@@ -101,6 +101,7 @@ int main(void)
     while ((c = getchar()) != EOF) {
         if (c == '\n') {
             answer(line, length);
+            if (fflush(stdout) != 0) return 1; /* whoever asked has the answer before the next read */
             length = 0;
             any = 0;
             continue;

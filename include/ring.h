@@ -29,13 +29,15 @@ extern "C" {
 #define RING_RECORD_BYTES 7952u /* a ring record: the least that `words` must have */
 #define RING_ANSWER_BYTES 20u   /* a step's answer: the least that `out` must have */
 #define RING_OWNER_BYTES 4u     /* the owner query's answer: the least that `out` must have */
-#define RING_MOST_HUBS 64u      /* the most identifiers, of four bytes each, that found a ring */
+
+/* The most hubs: the most identifiers, of four bytes each, that found a ring. */
+#define RING_MOST_HUBS 64u
 
 /* What a call returns. The numbers are those of the ring's documents; 16 is the roll call's, which C does not make. */
 enum ring_code {
     RING_OK = 0,
     RING_RECORD_SHORT = 1,    /* `words` has fewer than RING_RECORD_BYTES bytes */
-    RING_NOT_WELL_FORMED = 2, /* the record is not one that ring_fresh and ring_step leave */
+    RING_NOT_WELL_FORMED = 2, /* the record is damaged: ring_fresh and ring_step leave none that is refused so */
     RING_NO_OPERATION = 3,    /* the operation is not one of enum ring_operation */
     RING_NO_HUB = 4,          /* a hub number is not below the number of hubs */
     RING_NOT_IN_RING = 5,     /* the hub is outside or still joining */
@@ -68,7 +70,7 @@ enum ring_answer {
     RING_GONE = 3,             /* the hub that no longer does */
     RING_JOIN_TURNED_AWAY = 4, /* the hub, outside again: it may try later */
     RING_LEAVE_TURNED_AWAY = 5, /* the hub, still inside: it may try later */
-    RING_JOINED = 6,           /* the hub that finished its part in a join */
+    RING_JOINED = 6,           /* the newcomer, unlocked: its join is complete */
     RING_LEFT = 7              /* the hub that is outside now */
 };
 

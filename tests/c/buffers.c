@@ -1,6 +1,7 @@
 /*
- * The C calls at the edges of their buffers: every length around what is needed, left-over bytes, refusals, and guard bytes on both sides of
- * each buffer, which no call may touch. Prints 'N passed, M failed'.
+ * The C calls at the edges of their buffers: every length around what is needed, left-over bytes, refusals. All is done twice: with guard
+ * bytes on both sides of each buffer, which no call may touch, and with none, so that valgrind or AddressSanitizer sees the first byte that
+ * is read or written beside a buffer. Prints 'N passed, M failed'.
  */
 #include <stdio.h>
 #include <stdlib.h>
@@ -8,10 +9,10 @@
 
 #include "ring.h"
 
-#define GUARD 64
 #define MARK 0xA5
 
 static unsigned passed, failed;
+static size_t guard; /* guard bytes on each side */
 
 static void expect(int holds, const char *what)
 {
@@ -23,7 +24,7 @@ static void expect(int holds, const char *what)
     printf("FAILED: %s\n", what);
 }
 
-/* A buffer of its very own size between two rows of guard bytes; valgrind knows where it ends. */
+/* A buffer of its very own size between two rows of guard bytes. */
 struct buffer {
     uint8_t *all, *bytes;
     size_t len;
@@ -31,10 +32,10 @@ struct buffer {
 
 static struct buffer lend(const uint8_t *content, size_t content_len, size_t len)
 {
-    struct buffer b = {malloc(GUARD + len + GUARD), NULL, len};
+    struct buffer b = {malloc(guard + len + guard), NULL, len};
     if (b.all == NULL) exit(2);
-    memset(b.all, MARK, GUARD + len + GUARD);
-    b.bytes = b.all + GUARD;
+    memset(b.all, MARK, guard + len + guard);
+    b.bytes = b.all + guard;
     if (content_len != 0) memcpy(b.bytes, content, content_len < len ? content_len : len);
     return b;
 }
@@ -42,44 +43,67 @@ static struct buffer lend(const uint8_t *content, size_t content_len, size_t len
 /* Whether the bytes from `from` on, and the guards, still hold the mark. */
 static int untouched(const struct buffer *b, size_t from)
 {
-    for (size_t i = 0; i < GUARD; i++)
+    for (size_t i = 0; i < guard; i++)
         if (b->all[i] != MARK || b->bytes[b->len + i] != MARK) return 0;
     for (size_t i = from; i < b->len; i++)
         if (b->bytes[i] != MARK) return 0;
     return 1;
 }
 
+/* Whether nothing at all was written: the content it was lent with stands, and so do the marks behind it and the guards. */
+static int unchanged(const struct buffer *b, const uint8_t *content, size_t content_len)
+{
+    size_t same = content_len < b->len ? content_len : b->len;
+    return untouched(b, same) && (same == 0 || memcmp(b->bytes, content, same) == 0);
+}
+
+/* Lengths of a record around the least and around whole words. */
+static const size_t lengths[] = {0, 1, 3, 4, 7948, 7951, 7952, 7953, 7954, 7955, 7956, 9000};
+#define LENGTHS (sizeof lengths / sizeof *lengths)
+
 static uint8_t ring[RING_RECORD_BYTES];
 static const uint8_t identifiers[8] = {100, 0, 0, 0, 200, 0, 0, 0};
 
 static void fresh_at_each_length(void)
 {
-    static const size_t lengths[] = {0, 1, 4, 7948, 7951, 7952, 7953, 7955, 7956, 9000};
-    for (size_t k = 0; k < sizeof lengths / sizeof *lengths; k++) {
-        struct buffer b = lend(NULL, 0, lengths[k]);
-        uint32_t refusal = ring_fresh(b.bytes, b.len, identifiers, sizeof identifiers);
+    for (size_t k = 0; k < LENGTHS; k++) {
+        struct buffer b = lend(NULL, 0, lengths[k]), ids = lend(identifiers, sizeof identifiers, sizeof identifiers);
+        uint32_t refusal = ring_fresh(b.bytes, b.len, ids.bytes, ids.len);
         int is_long = b.len >= RING_RECORD_BYTES;
         expect(refusal == (is_long ? RING_OK : RING_RECORD_SHORT), "fresh: 1 below 7952 bytes");
         expect(untouched(&b, is_long ? RING_RECORD_BYTES : 0), "fresh: bytes behind the record, or of a refused call");
         expect(!is_long || memcmp(b.bytes, ring, sizeof ring) == 0, "fresh: the same record at every length");
+        expect(unchanged(&ids, identifiers, sizeof identifiers), "fresh: the identifiers stay");
         free(b.all);
+        free(ids.all);
     }
+}
+
+/* Founds a ring in b by the first `len` of these bytes, which are lent as a buffer of their own. */
+static uint32_t found(struct buffer *b, const uint8_t *many, size_t len)
+{
+    struct buffer ids = lend(many, len, len);
+    uint32_t refusal = ring_fresh(b->bytes, b->len, ids.bytes, ids.len);
+    expect(unchanged(&ids, many, len), "fresh: the identifiers stay");
+    free(ids.all);
+    return refusal;
 }
 
 static void fresh_by_identifiers(void)
 {
     struct buffer b = lend(NULL, 0, RING_RECORD_BYTES);
-    uint8_t many[4 * 65];
+    uint8_t many[4 * 65 + 3];
     for (size_t i = 0; i < sizeof many; i++) many[i] = (uint8_t)(i % 4 == 0 ? i / 4 : 0);
-    expect(ring_fresh(b.bytes, b.len, many, 0) == RING_IDENTIFIER_COUNT, "no identifier: 13");
-    expect(ring_fresh(b.bytes, b.len, many, 3) == RING_IDENTIFIER_COUNT, "three bytes are no identifier: 13");
-    expect(ring_fresh(b.bytes, b.len, many, 4 * 65) == RING_IDENTIFIER_COUNT, "65 identifiers: 13");
+    expect(found(&b, many, 0) == RING_IDENTIFIER_COUNT, "no identifier: 13");
+    expect(found(&b, many, 3) == RING_IDENTIFIER_COUNT, "three bytes are no identifier: 13");
+    expect(found(&b, many, 4 * 65) == RING_IDENTIFIER_COUNT, "65 identifiers: 13");
+    expect(found(&b, many, 4 * 65 + 3) == RING_IDENTIFIER_COUNT, "65 identifiers and three bytes: 13");
     memset(many + 4, 0, 4);
-    expect(ring_fresh(b.bytes, b.len, many, 8) == RING_IDENTIFIER_TWICE, "the same twice: 14");
+    expect(found(&b, many, 8) == RING_IDENTIFIER_TWICE, "the same twice: 14");
     expect(untouched(&b, 0), "a refused fresh call writes nothing");
     many[4] = 1;
-    expect(ring_fresh(b.bytes, b.len, many, 4 * 64 + 3) == RING_OK, "64 identifiers pass, three bytes left over");
-    expect(ring_word(b.bytes, 1) == 64, "n is 64");
+    expect(found(&b, many, 4 * 64 + 3) == RING_OK, "64 identifiers pass, three bytes left over");
+    expect(untouched(&b, b.len) && ring_word(b.bytes, 1) == 64, "n is 64");
     free(b.all);
 }
 
@@ -96,6 +120,24 @@ static void step_at_each_length(void)
         expect(!is_long || (ring_word(out.bytes, 0) == RING_FOUND && ring_word(out.bytes, 2) == 150), "step: found");
         expect(!is_long || ring_word(b.bytes, 3) == 1, "step: the question is counted");
         free(b.all);
+        free(out.all);
+    }
+}
+
+/* A step and an owner query on a record of each length. */
+static void record_of_each_length(void)
+{
+    for (size_t k = 0; k < LENGTHS; k++) {
+        struct buffer b = lend(ring, sizeof ring, lengths[k]), hub = lend(NULL, 0, RING_OWNER_BYTES), out = lend(NULL, 0, RING_ANSWER_BYTES);
+        uint32_t code = b.len >= RING_RECORD_BYTES ? RING_OK : RING_RECORD_SHORT;
+        expect(ring_owner(b.bytes, b.len, 150, hub.bytes, hub.len) == code, "owner: 1 below 7952 bytes");
+        expect(unchanged(&b, ring, sizeof ring), "owner: the record stays, at every length");
+        expect(untouched(&hub, code == RING_OK ? hub.len : 0), "owner: the output of a refused call, and beside it");
+        expect(ring_step(b.bytes, b.len, RING_ASK, 0, 150, out.bytes, out.len) == code, "step: 1 below 7952 bytes");
+        expect(code == RING_OK ? untouched(&b, RING_RECORD_BYTES) : unchanged(&b, ring, sizeof ring), "step: what may not change, at every length");
+        expect(untouched(&out, code == RING_OK ? out.len : 0), "step: the output of a refused call, and beside it");
+        free(b.all);
+        free(hub.all);
         free(out.all);
     }
 }
@@ -117,6 +159,24 @@ static void step_refused(void)
     free(out.all);
 }
 
+/* 12 is asked before 11: two hubs, 256 questions on their way, all tickets given but one, then none left. */
+static void tickets_before_places(void)
+{
+    static const uint32_t entering[][2] = {{1, 0}, {0, 1}, {1, 0}, {0, 0}, {0, 1}};
+    static uint8_t full[RING_RECORD_BYTES];
+    uint8_t out[RING_ANSWER_BYTES];
+    uint32_t code = ring_fresh(full, sizeof full, identifiers, sizeof identifiers);
+    code |= ring_step(full, sizeof full, RING_JOIN, 1, 0, out, sizeof out);
+    for (size_t k = 0; k < 5; k++) code |= ring_step(full, sizeof full, RING_DELIVER, entering[k][0], entering[k][1], out, sizeof out);
+    expect(code == RING_OK && ring_word(out, 0) == RING_JOINED, "hub 1 joins");
+    for (size_t k = 0; k < 256; k++) code |= ring_step(full, sizeof full, RING_ASK, 0, ring_word(identifiers, 1), out, sizeof out);
+    expect(code == RING_OK && ring_word(full, 2) == 256, "256 questions wait");
+    expect(ring_step(full, sizeof full, RING_ASK, 0, ring_word(identifiers, 1), out, sizeof out) == RING_MESSAGES_FULL, "11 where a ticket is left");
+    memset(full + 12, 0xFF, 4); /* asked: the last of all numbers */
+    expect(ring_step(full, sizeof full, RING_ASK, 0, ring_word(identifiers, 1), out, sizeof out) == RING_TICKETS_USED_UP, "12 is asked before 11");
+    expect(ring_step(full, sizeof full, RING_ASK, 0, ring_word(identifiers, 0), out, sizeof out) == RING_TICKETS_USED_UP, "12 where none is sent");
+}
+
 static void owner_at_each_length(void)
 {
     for (size_t len = 0; len <= 8; len++) {
@@ -132,14 +192,36 @@ static void owner_at_each_length(void)
     }
 }
 
+static void owner_refused(void)
+{
+    struct buffer b = lend(ring, sizeof ring, RING_RECORD_BYTES), out = lend(NULL, 0, RING_OWNER_BYTES);
+    expect(ring_owner(b.bytes, 7951, 1, out.bytes, 3) == RING_OUTPUT_SHORT, "owner: 17 is asked before 1");
+    b.bytes[7951] = 1;
+    expect(ring_owner(b.bytes, b.len, 1, out.bytes, out.len) == RING_NOT_WELL_FORMED, "owner: a last byte that is not 0: 2");
+    b.bytes[7951] = 0;
+    b.bytes[4 * 5] = 4; /* hub 0 is leaving, locked: nobody holds a number */
+    b.bytes[4 * 6] = 1;
+    expect(ring_owner(b.bytes, b.len, 1, out.bytes, out.len) == RING_NO_HOLDER, "owner: no hub holds the number: 15");
+    expect(untouched(&out, 0) && untouched(&b, b.len), "refused owner queries leave the output");
+    free(b.all);
+    free(out.all);
+}
+
 int main(void)
 {
+    static const size_t guards[] = {64, 0};
     if (ring_fresh(ring, sizeof ring, identifiers, sizeof identifiers) != RING_OK) return 2;
-    fresh_at_each_length();
-    fresh_by_identifiers();
-    step_at_each_length();
-    step_refused();
-    owner_at_each_length();
+    for (size_t k = 0; k < 2; k++) {
+        guard = guards[k];
+        fresh_at_each_length();
+        fresh_by_identifiers();
+        step_at_each_length();
+        record_of_each_length();
+        step_refused();
+        tickets_before_places();
+        owner_at_each_length();
+        owner_refused();
+    }
     printf("%u passed, %u failed\n", passed, failed);
     return failed != 0;
 }

@@ -1,0 +1,30 @@
+/*
+ * A fuzzer's input, read as a record and then a list of commands, so that changing a few bytes leads to other deep states:
+ *
+ *   lengths   1 byte: which lengths of record and output are lent (0: exact ones)
+ *   mode      1 byte, modulo 4:
+ *     0, 1    a fresh ring: count of identifiers, scheme, and with scheme 0 the identifiers, 4 bytes each
+ *     2       a record from small fields, most of which fit each other; then single words written over it
+ *     3       a record as it is: 2 bytes of length, then so many bytes; the rest is 0
+ *   commands  to the end: 1 byte of form, then what that form has (input.c)
+ */
+#ifndef INPUT_H
+#define INPUT_H
+
+#include "calls.h"
+
+struct input {
+    const uint8_t *at;
+    size_t left;
+};
+
+/* The next byte; 0 behind the end. */
+uint32_t take_byte(struct input *in);
+
+/* Answers whether there is a record to go on with: not after a fresh call that was refused. */
+int take_ring(struct input *in, struct ring *ring);
+
+/* Takes the next commands, at most 256 that are alike; answers how often *c is to be given, 0 at the end of the input. */
+unsigned take_commands(struct input *in, const struct ring *ring, struct command *c);
+
+#endif

@@ -1,0 +1,45 @@
+//! The model's calls under C names, for the fuzzers to compare the engine with.
+
+use std::slice::{from_raw_parts, from_raw_parts_mut};
+
+use ring_model::{bytes, ringrun};
+
+/// `ring_fresh` as the model has it.
+///
+/// # Safety
+/// Each pointer is valid for its length, and the buffers do not overlap.
+#[no_mangle]
+pub unsafe extern "C" fn model_fresh(words: *mut u8, words_len: usize, identifiers: *const u8, identifiers_len: usize) -> u32 {
+    bytes::ring_fresh(from_raw_parts_mut(words, words_len), from_raw_parts(identifiers, identifiers_len))
+}
+
+/// `ring_step` as the model has it.
+///
+/// # Safety
+/// As for `model_fresh`.
+#[no_mangle]
+pub unsafe extern "C" fn model_step(words: *mut u8, words_len: usize, operation: u32, x: u32, y: u32, out: *mut u8, out_len: usize) -> u32 {
+    bytes::ring_step(from_raw_parts_mut(words, words_len), operation, x, y, from_raw_parts_mut(out, out_len))
+}
+
+/// `ring_owner` as the model has it.
+///
+/// # Safety
+/// As for `model_fresh`.
+#[no_mangle]
+pub unsafe extern "C" fn model_owner(words: *const u8, words_len: usize, number: u32, out: *mut u8, out_len: usize) -> u32 {
+    bytes::ring_owner(from_raw_parts(words, words_len), number, from_raw_parts_mut(out, out_len))
+}
+
+/// What the model's `ringrun` prints for the input; answers how many bytes that is. Bytes that find no room are counted, not written.
+///
+/// # Safety
+/// As for `model_fresh`.
+#[no_mangle]
+pub unsafe extern "C" fn model_ringrun(input: *const u8, input_len: usize, out: *mut u8, out_len: usize) -> usize {
+    let mut printed = Vec::new();
+    ringrun::run(from_raw_parts(input, input_len), &mut printed).expect("memory takes every write");
+    let kept = printed.len().min(out_len);
+    from_raw_parts_mut(out, out_len)[..kept].copy_from_slice(&printed[..kept]);
+    printed.len()
+}
