@@ -1,0 +1,84 @@
+//! The records that are measured: n hubs inside, m messages waiting.
+
+use ring_model::record::{Message, State};
+use ring_model::{fresh, step, RECORD_WORDS};
+
+const ASK: u32 = 0;
+const JOIN: u32 = 1;
+const LEAVE: u32 = 2;
+const DELIVER: u32 = 3;
+
+/// Hub i's identifier: the hubs stand clockwise in the order of their numbers,
+/// spread over the whole circle.
+pub fn identifier(n: u32, hub: u32) -> u32 {
+    ((u64::from(hub) << 32) / u64::from(n)) as u32 + 1000
+}
+
+/// A record of n hubs that are inside and m messages, as bytes.
+///
+/// All but those of a lone hub are reached from fresh by calls: the oldest
+/// message is a question that its receiver answers, the second one that it
+/// sends on, the last one the only one of its link. Between them every fourth
+/// hub's wish to leave and questions of all other hubs alternate.
+pub fn record(n: u32, m: usize) -> Vec<u8> {
+    let mut words = inside(n);
+    if n == 1 {
+        lone(&mut words, m);
+    } else {
+        fill(&mut words, n, m);
+    }
+    let state = State::read(&words).expect("the record reads");
+    assert_eq!((state.n(), state.messages.len()), (n, m));
+    words.iter().flat_map(|word| word.to_le_bytes()).collect()
+}
+
+/// n hubs inside, at rest.
+fn inside(n: u32) -> Vec<u32> {
+    let mut words = vec![0; RECORD_WORDS];
+    let identifiers: Vec<u32> = (0..n).map(|hub| identifier(n, hub)).collect();
+    fresh(&mut words, &identifiers).expect("fresh is accepted");
+    for hub in 1..n {
+        step(&mut words, JOIN, hub, 0).expect("join is accepted");
+        while let Some(oldest) = oldest(&words) {
+            step(&mut words, DELIVER, oldest.from, oldest.to).expect("deliver is accepted");
+        }
+    }
+    words
+}
+
+fn oldest(words: &[u32]) -> Option<Message> {
+    let state = State::read(words).expect("the record reads");
+    state.messages.first().copied()
+}
+
+/// A lone hub owns every number, so nothing waits there in any run: these
+/// records are well formed, and made by hand.
+fn lone(words: &mut [u32], m: usize) {
+    let mut state = State::read(words).expect("the record reads");
+    state.asked = m as u32;
+    for ticket in 0..m as u32 {
+        state.send_lookup(0, 0, ticket.wrapping_mul(0x9E37_79B9), ticket, 0);
+    }
+    state.write(words);
+}
+
+/// m calls that each send one message.
+fn fill(words: &mut [u32], n: u32, m: usize) {
+    let askers: Vec<u32> = (0..n - 1).collect();
+    let mut leavers = (4..n.saturating_sub(2)).step_by(4);
+    for sent in 0..m {
+        let last = sent + 1 == m;
+        let hub = if last {
+            n - 1
+        } else {
+            askers[sent % askers.len()]
+        };
+        let (operation, x, y) = match (sent, leavers.next()) {
+            (0, _) => (ASK, 0, identifier(n, 1 % n)),
+            (1, _) => (ASK, 1 % n, identifier(n, 0)),
+            (_, Some(leaver)) if !last && sent % 2 == 0 => (LEAVE, leaver, 0),
+            _ => (ASK, hub, identifier(n, (hub + n / 2) % n)),
+        };
+        step(words, operation, x, y).expect("a call that sends is accepted");
+    }
+}
