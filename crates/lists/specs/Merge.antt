@@ -12,7 +12,7 @@ use lib.ListN.{length, getD}
 use lib.Seq.{take-length}
 use Rattle.lists.specs.Choice.{if_then_else_}
 use Rattle.lists.specs.Members.{Mem, mem-split, mem-left, mem-right}
-use Rattle.lists.specs.Tests.{says-and, says-as, says-eq, says-not, says-same, says-so, every, says-every, distinct, Distinct, says-distinct}
+use Rattle.lists.specs.Tests.{and-true, says-and, says-as, says-eq, says-not, says-same, says-so, every, says-every, distinct, Distinct, says-distinct}
 use Rattle.lists.specs.Blocks.{table, table-of}
 
 -- two numbers merge to 0 when both are 0
@@ -37,21 +37,7 @@ pub merged-more : (n : ℕ) (f : ℕ → ℕ) → merged (n + 1) f ≡ bitOr (me
 unfolding merged
 merged-more n f = rw add-one
 
--- every element but the last, and the last
-every-last : {A : Type 0} (q : A → Bool) (l : List A) (x : A) → every q (l ++ (x ∷ [])) ≡ (every q l && q x)
-unfolding every
-every-last q [] x = go (q x)
-  where
-    go : (b : Bool) → (b && true) ≡ b
-    go true = refl
-    go false = refl
-every-last q (y ∷ l) x = ap (λ z. q y && z) (every-last q l x) ∙ go (q y)
-  where
-    go : (b : Bool) → (b && (every q l && q x)) ≡ (b && every q l && q x)
-    go true = refl
-    go false = refl
-
--- every element of two lists, one after the other, and of two tests at once
+-- every element of two lists, one after the other, of two tests at once, and of a list that is longer by one
 pub every-append : {A : Type 0} (q : A → Bool) (l r : List A) → every q (l ++ r) ≡ (every q l && every q r)
 every-append q l r =
     says-same (says-every q (λ x. T (q x)) (λ x. says-so (q x)) (l ++ r))
@@ -65,6 +51,10 @@ every-and p q l =
     (says-as (says-and (says-every p (λ x. T (p x)) (λ x. says-so (p x)) l) (says-every q (λ x. T (q x)) (λ x. says-so (q x)) l))
     (λ k x m. (k .0 x m, k .1 x m))
     (λ k. ((λ x m. k x m .0), λ x m. k x m .1)))
+
+every-last : {A : Type 0} (q : A → Bool) (l : List A) (x : A) → every q (l ++ (x ∷ [])) ≡ (every q l && q x)
+unfolding every
+every-last q l x = every-append q l (x ∷ []) ∙ ap (λ z. every q l && z) (and-true (q x))
 
 -- All are 0 exactly where every value of a table passes a test.
 pub merged-test : {A : Type 0} (f : ℕ → ℕ) (q : A → Bool) (g : ℕ → A) (n : ℕ) → ((i : ℕ) → i < n → eqb (f i) 0 ≡ q (g i))

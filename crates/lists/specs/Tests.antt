@@ -20,6 +20,15 @@ pub and-both : (a b : Bool) → T a → T b → T (a && b)
 and-both true b s t = t
 and-both false b s t = absurd s
 
+-- true and false as the second test
+pub and-true : (a : Bool) → (a && true) ≡ a
+and-true true = refl
+and-true false = refl
+
+pub and-false : (a : Bool) → (a && false) ≡ false
+and-false true = refl
+and-false false = refl
+
 pub →eqb : (x y : ℕ) → x ≡ y → T (eqb x y)
 →eqb x y e = subst (λ z. T (eqb x z)) e (eqb-refl x)
 

@@ -9,7 +9,7 @@ use lib.Dec.{T, leb, ltb, eqb, eqb→eq}
 use lib.ListN.{length, getD, take, drop, length-drop, take-append-drop}
 use lib.Seq.{length-take-le, take-add, take-length}
 use Rattle.lists.specs.Choice.{if_then_else_}
-use Rattle.lists.specs.Tests.{every, distinct, true-T, says-same, says-so, says-as, says-and, says-eq, says-le}
+use Rattle.lists.specs.Tests.{and-true, and-false, every, distinct, true-T, says-same, says-so, says-as, says-and, says-eq, says-le}
 use Rattle.lists.specs.Blocks.{table}
 use Rattle.lists.specs.Merge.{merged, or-test, every-append, merged-test, merged-zero, merged-zeros, failure-test, when-test}
 use Rattle.protocol.specs.declared.Message.{Message}
@@ -165,13 +165,9 @@ pub fails-header : (w : List ℕ) → headerOk w ≡ false → wellFormed w ≡ 
 unfolding wellFormed
 fails-header w e = ap (λ z. z && unusedOk w && formed (read w)) e
 
-none : (b : Bool) → (b && false) ≡ false
-none true = refl
-none false = refl
-
 pub fails-nodes : (w : List ℕ) → nodesOk (read w) ≡ false → wellFormed w ≡ false
 unfolding wellFormed formed nodesOk
-fails-nodes w e = ap (λ z. headerOk w && unusedOk w && (z && every (messageOk (count (read w)) (read w .asked)) (read w .messages))) e ∙ none (headerOk w && unusedOk w)
+fails-nodes w e = ap (λ z. headerOk w && unusedOk w && (z && every (messageOk (count (read w)) (read w .asked)) (read w .messages))) e ∙ and-false (headerOk w && unusedOk w)
 
 module _ (w : List ℕ) (n m : ℕ) (en : n ≡ countIn w) (em : m ≡ messagesIn w) where
   abbrev tested : Bool
@@ -185,17 +181,13 @@ module _ (w : List ℕ) (n m : ℕ) (en : n ≡ countIn w) (em : m ≡ messagesI
   unfolding wellFormed formed read
   fails-messages e =
       ap (λ z. headerOk w && unusedOk w && (distinct (identifiers (read w)) && every (rowOk (count (read w))) (read w .rows) && z)) (sym messages-law ∙ e)
-      ∙ ap (λ z. headerOk w && unusedOk w && z) (none (distinct (identifiers (read w)) && every (rowOk (count (read w))) (read w .rows)))
-      ∙ none (headerOk w && unusedOk w)
+      ∙ ap (λ z. headerOk w && unusedOk w && z) (and-false (distinct (identifiers (read w)) && every (rowOk (count (read w))) (read w .rows)))
+      ∙ and-false (headerOk w && unusedOk w)
 
   pub passes-messages : headerOk w ≡ true → nodesOk (read w) ≡ true → tested ≡ true → (a : ℕ) → eqb a 0 ≡ unusedOk w → eqb a 0 ≡ wellFormed w
   unfolding wellFormed formed nodesOk read
   passes-messages h k t a p =
-      p ∙ sym (all (unusedOk w)) ∙ sym (ap₂ (λ x y. x && unusedOk w && y) h (ap₂ (λ x y. x && y) k (sym messages-law ∙ t)))
-    where
-      all : (b : Bool) → (b && true) ≡ b
-      all true = refl
-      all false = refl
+      p ∙ sym (and-true (unusedOk w)) ∙ sym (ap₂ (λ x y. x && unusedOk w && y) h (ap₂ (λ x y. x && y) k (sym messages-law ∙ t)))
 
 -- what a header that passes says
 pub nodes-few : (w : List ℕ) → headerOk w ≡ true → countIn w ≤ mostNodes

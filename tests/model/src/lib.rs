@@ -20,6 +20,7 @@ pub mod record;
 pub mod refusal;
 pub mod ringrun;
 pub mod routing;
+pub mod states;
 pub mod step;
 pub mod tally;
 pub mod well_formed;
