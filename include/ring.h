@@ -33,7 +33,7 @@ extern "C" {
 /* The most hubs: the most identifiers, of four bytes each, that found a ring. */
 #define RING_MOST_HUBS 64u
 
-/* What a call returns. The numbers are those of the ring's documents; 16 is the roll call's, which C does not make. */
+/* What a call returns. The numbers are those of the ring's documents; no call of this header returns 16, the roll call's. */
 enum ring_code {
     RING_OK = 0,
     RING_RECORD_SHORT = 1,    /* `words` has fewer than RING_RECORD_BYTES bytes */
@@ -51,7 +51,17 @@ enum ring_code {
     RING_IDENTIFIER_COUNT = 13, /* fresh: not 1 to 64 identifiers */
     RING_IDENTIFIER_TWICE = 14, /* fresh: two identifiers are equal */
     RING_NO_HOLDER = 15,      /* owner: no hub holds the number */
+    RING_NO_WAY_ROUND = 16,   /* roll call: following the successors does not come back */
     RING_OUTPUT_SHORT = 17    /* `out` is too short: asked before anything else */
+};
+
+/* A hub's state: the second of the seven words of its row, which begins at byte 16 + 28 times the hub's number of the record. */
+enum ring_state {
+    RING_OUTSIDE = 0,
+    RING_JOINING = 1,
+    RING_INSIDE = 2,
+    RING_WANTING_TO_LEAVE = 3,
+    RING_LEAVING = 4
 };
 
 /* A step's operation, and what x and y are. */

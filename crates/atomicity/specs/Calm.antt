@@ -5,11 +5,13 @@ use mathlib.Core.List.{List, [], _++_}
 use Prim.Native.Nat.{ℕ, _+_, _≤_, _<_}
 use native.Mathlib.Decide.{ℕ-discrete}
 use native.Mathlib.Omega.{arith}
-use Rattle.lists.specs.Members.{Mem, mem-split, All, all-mem, times, Off, by-row}
+use Rattle.lists.specs.Basics.{Mem, All, times}
+use Rattle.lists.specs.Members.{mem-split, all-mem, Off, by-row}
 use Rattle.atomicity.specs.Neighbours.{PredL, predl-ext}
-use Rattle.atomicity.specs.Invariant.{Core, Hubs, Msg, held, Points, Loc, Idle, Fwd, Flags, Member, Closed, Back, Way, Fifo, Inv, joinPoint}
+use Rattle.atomicity.specs.Invariant.{Core, Hubs, Msg, carriers, Points, Loc, Idle, Fwd, Flags, Member, Closed, Back, Way, Fifo, Inv, joinPoint}
 use Rattle.atomicity.specs.Frame.{Keeps, points-at}
-use Rattle.atomicity.specs.OneStep.{held-append, closed-grow, closed-late, no-join-grow, way-add, change}
+use Rattle.atomicity.specs.OneStep.{carriers-append, closed-grow, closed-late, no-join-grow, way-add, change}
+use Rattle.protocol.specs.Names.{INSIDE, JOINING, LEAVING, WANTING-TO-LEAVE}
 
 -- S′ is S with the row of r made v and s
 pub record Rewritten (S S′ : Hubs) (r : ℕ) (v : Core) (s : ℕ) : Type 0 where
@@ -20,7 +22,7 @@ pub record Rewritten (S S′ : Hubs) (r : ℕ) (v : Core) (s : ℕ) : Type 0 whe
 
 module _ {S S′ : Hubs} {r : ℕ} {v : Core} {s : ℕ} (w : Rewritten S S′ r v s) where
   -- r's succ is left as it is, and r stays in the ring: whoever pointed to h does so still
-  pub points-row : (p h : ℕ) → s ≡ S .succ r → (2 ≤ S .core r .state → S .core r .state ≤ 3 → (2 ≤ v .state) × (v .state ≤ 3)) → Points S p h → Points S′ p h
+  pub points-row : (p h : ℕ) → s ≡ S .succ r → (INSIDE ≤ S .core r .state → S .core r .state ≤ WANTING-TO-LEAVE → (INSIDE ≤ v .state) × (v .state ≤ WANTING-TO-LEAVE)) → Points S p h → Points S′ p h
   points-row p h e f = go (ℕ-discrete p r)
     where
       go : Dec (p ≡ r) → Points S p h → Points S′ p h
@@ -31,31 +33,31 @@ module _ {S S′ : Hubs} {r : ℕ} {v : Core} {s : ℕ} (w : Rewritten S S′ r 
 
 -- r's row as those that point to it need it
 abbrev pub Serves : Core → ℕ → ℕ → Type 0
-Serves v l h = (2 ≤ v .state) × (v .state ≤ 4) × (l ≡ 1 → (v .pred ≡ h) ⊎ ((v .flag ≡ 1) × (v .oldpred ≡ h)))
+Serves v l h = (INSIDE ≤ v .state) × (v .state ≤ LEAVING) × (l ≡ 1 → (v .pred ≡ h) ⊎ ((v .flag ≡ 1) × (v .oldpred ≡ h)))
 
 pub record Calm (n : ℕ) (id : ℕ → ℕ) (c : ℕ) (S S′ : Hubs) (g is : List ℕ) (R new : List Msg) (r : ℕ) (v : Core) (s : ℕ) : Type 0 where
   -- locks
-  pub apart : (h : ℕ) → times is h + held R h ≤ 1
+  pub apart : (h : ℕ) → times is h + carriers R h ≤ 1
   pub lock : v .lock ≤ 1
-  pub here : v .lock + times g r ≡ S .core r .lock + held new r
-  pub there : (h : ℕ) → h ≢ r → times g h ≡ held new h
+  pub here : v .lock + times g r ≡ S .core r .lock + carriers new r
+  pub there : (h : ℕ) → h ≢ r → times g h ≡ carriers new h
   -- the frame, at r
   pub frame-core : Off is r → v ≡ S .core r
   pub frame-self : Off is r → S .succ r ≢ r → s ≢ r
-  pub frame-succ : 2 ≤ S .core r .state → S .core r .state ≤ 4 → Off is (S .succ r) → s ≡ S .succ r
-  pub frame-stay : 2 ≤ S .core r .state → S .core r .state ≤ 3 → Off is (S .succ r) → (2 ≤ v .state) × (v .state ≤ 3)
+  pub frame-succ : INSIDE ≤ S .core r .state → S .core r .state ≤ LEAVING → Off is (S .succ r) → s ≡ S .succ r
+  pub frame-stay : INSIDE ≤ S .core r .state → S .core r .state ≤ WANTING-TO-LEAVE → Off is (S .succ r) → (INSIDE ≤ v .state) × (v .state ≤ WANTING-TO-LEAVE)
   -- the participants
   pub idle : All (λ h. S′ .core h .lock ≡ 0 → Idle S′ h) is
   pub fresh : All (Loc S′) new
   -- r's row
-  pub fwd : 2 ≤ v .state → v .state ≤ 4 → Serves (S′ .core s) (S .led r) r
-  pub served : (h : ℕ) → S .succ h ≡ r → 2 ≤ S .core h .state → S .core h .state ≤ 4 → Serves (S .core r) (S .led h) h → Serves v (S .led h) h
+  pub fwd : INSIDE ≤ v .state → v .state ≤ LEAVING → Serves (S′ .core s) (S .led r) r
+  pub served : (h : ℕ) → S .succ h ≡ r → INSIDE ≤ S .core h .state → S .core h .state ≤ LEAVING → Serves (S .core r) (S .led h) h → Serves v (S .led h) h
   pub flags : Flags v
   pub member : Member v (S .led r)
-  pub next : 2 ≤ v .state → S .led r ≡ 1 → PredL n id (S .led) (v .pred) r
-  pub below : 1 ≤ v .state → r < c
+  pub next : INSIDE ≤ v .state → S .led r ≡ 1 → PredL n id (S .led) (v .pred) r
+  pub below : JOINING ≤ v .state → r < c
   -- the links
-  pub onward : 2 ≤ S .core r .state → S .core r .state ≤ 4 → Closed r (S .succ r) new ⊎ ((2 ≤ v .state) × (v .state ≤ 4) × (s ≡ S .succ r))
+  pub onward : INSIDE ≤ S .core r .state → S .core r .state ≤ LEAVING → Closed r (S .succ r) new ⊎ ((INSIDE ≤ v .state) × (v .state ≤ LEAVING) × (s ≡ S .succ r))
   pub back : S .core r .flag ≡ 1 → Closed r (S .core r .pred) new ⊎ ((v .flag ≡ 1) × (v .pred ≡ S .core r .pred))
   pub nojoin : (a t p : ℕ) → Mem (joinPoint a t p) new → ⊥
   pub fifo : Fifo S′ new
@@ -98,7 +100,7 @@ module _ {n : ℕ} {id : ℕ → ℕ} {c : ℕ} {S S′ : Hubs} {g is : List ℕ
       fwd-r : Serves (S′ .core s) (S .led r) r → Fwd S′ r
       fwd-r k = record { low = rw (w .succ) (k .0); high = rw (w .succ) (k .1); knows = rw (w .succ, ls r) (k .2) }
 
-      open-r : (y : ℕ) (u : List Msg) → S .succ r ≡ y → Closed r (S .succ r) new ⊎ ((2 ≤ v .state) × (v .state ≤ 4) × (s ≡ S .succ r)) → Way S′ r y (u ++ new)
+      open-r : (y : ℕ) (u : List Msg) → S .succ r ≡ y → Closed r (S .succ r) new ⊎ ((INSIDE ≤ v .state) × (v .state ≤ LEAVING) × (s ≡ S .succ r)) → Way S′ r y (u ++ new)
       open-r y u e (inl k) = inl (closed-late u (rw e at k))
       open-r y u e (inr k) = inr (inl (record { low = rw (w .core) (k .0); high = rw (w .core) (k .1); at = w .succ ∙ k .2 ∙ e }))
 
@@ -116,7 +118,7 @@ module _ {n : ℕ} {id : ℕ → ℕ} {c : ℕ} {S S′ : Hubs} {g is : List ℕ
       entry a t p (inl m) = predl-ext ls (i .entry a t p m)
       entry a t p (inr m) = absurd (d .nojoin a t p m)
 
-      fwd-to : (h : ℕ) → h ≢ r → S .succ h ≡ r → 2 ≤ S .core h .state → S .core h .state ≤ 4 → Fwd S h → Fwd S′ h
+      fwd-to : (h : ℕ) → h ≢ r → S .succ h ≡ r → INSIDE ≤ S .core h .state → S .core h .state ≤ LEAVING → Fwd S h → Fwd S′ h
       fwd-to h ne e l u f =
           let es : S′ .succ h ≡ r = w .offs h ne ∙ e in
           let ec : S′ .core (S′ .succ h) ≡ v = rw es (w .core) in
@@ -125,7 +127,7 @@ module _ {n : ℕ} {id : ℕ → ℕ} {c : ℕ} {S S′ : Hubs} {g is : List ℕ
 
 -- r's succ is left as it is, and serves r if it did
 pub fwd-same : {n : ℕ} {id : ℕ → ℕ} {c : ℕ} {S S′ : Hubs} {g : List ℕ} {R : List Msg} {r : ℕ} {v : Core}
-    → Inv n id c S g R → Rewritten S S′ r v (S .succ r) → 2 ≤ S .core r .state → S .core r .state ≤ 4
+    → Inv n id c S g R → Rewritten S S′ r v (S .succ r) → INSIDE ≤ S .core r .state → S .core r .state ≤ LEAVING
     → (S .succ r ≡ r → Serves (S .core r) (S .led r) r → Serves v (S .led r) r) → Serves (S′ .core (S .succ r)) (S .led r) r
 fwd-same {S = S} {S′ = S′} {r = r} {v = v} i w l u f = go (ℕ-discrete (S .succ r) r) (i .fwd r l u)
   where
@@ -139,7 +141,7 @@ busy x h e l k = absurd (omega (arith, ap (λ y. y .lock) e))
 
 -- a step that changes no row
 pub record Sent (S : Hubs) (g : List ℕ) (new : List Msg) : Type 0 where
-  pub same : (h : ℕ) → times g h ≡ held new h
+  pub same : (h : ℕ) → times g h ≡ carriers new h
   pub fresh : All (Loc S) new
   pub nojoin : (a t p : ℕ) → Mem (joinPoint a t p) new → ⊥
   pub fifo : Fifo S new
@@ -147,7 +149,7 @@ pub record Sent (S : Hubs) (g : List ℕ) (new : List Msg) : Type 0 where
 pub sent : {n : ℕ} {id : ℕ → ℕ} {c : ℕ} {S : Hubs} {g : List ℕ} {R new : List Msg} → Inv n id c S g R → Sent S g new → Inv n id c S [] (R ++ new)
 sent {n} {id} {c} {S} {g} {R} {new} i d = record {
   one = i .one;
-  count = λ h. omega (arith, d .same h, i .count h, held-append R new h);
+  count = λ h. omega (arith, d .same h, i .count h, carriers-append R new h);
   idle = i .idle;
   loc = λ m k. loc m (mem-split m R new k);
   fwd = i .fwd;

@@ -1,41 +1,43 @@
 -- The commands ask, join and leave: refused, or all is good afterwards. Assumes nothing.
 use mathlib.Core.Path.{_≡_, refl, sym, _∙_, ap, subst}
 use mathlib.Core.Logic.{_⊎_, inl, inr, _≢_}
-use mathlib.Core.Bool.{Bool, true, not, _&&_}
+use mathlib.Core.Bool.{Bool, true}
 use mathlib.Core.List.{List, [], _∷_, _++_, map, map-append}
 use Prim.Native.Nat.{ℕ, _+_, _≤_, _<_}
 use native.Mathlib.Omega.{arith}
 use lib.Dec.{T, leb, ltb, eqb, leb→le, ltb→lt, eqb→eq, T-not}
-use lib.ListN.{length, set, length-set}
+use lib.ListN.{set, length-set}
 use Rattle.clockwise.specs.Laws.{In}
-use Rattle.lists.specs.Choice.{require, tested}
-use Rattle.lists.specs.Members.{Mem, mem-split, times, ind, ind-cases, ind-same, ind-ne}
+use Rattle.lists.specs.Basics.{require, Mem, times, ind}
+use Rattle.lists.specs.Choice.{tested}
+use Rattle.lists.specs.Members.{mem-split, ind-cases, ind-same, ind-ne}
 use Rattle.lists.specs.Tests.{and-left, and-right, →eqb}
 use Rattle.protocol.specs.declared.Row.{Row}
 use Rattle.protocol.specs.declared.Answer.the-variants.{Quiet, Found}
 use Rattle.protocol.specs.declared.Decision.the-variants.{Send}
-use Rattle.protocol.specs.Record.{round, State, count, row, withRow, sent}
+use Rattle.protocol.specs.Names.{INSIDE, JOINING, LEAVING, OUTSIDE, WANTING-TO-LEAVE}
+use Rattle.protocol.specs.Record.{round, State, count, row}
 use Rattle.protocol.specs.Routing.{inRing}
 use Rattle.protocol.specs.Step as step
-use Rattle.protocol.specs.Step.{Result, refused, conclude, room, asking}
+use Rattle.protocol.specs.Step.{Result, refused, conclude, asking}
 use Rattle.atomicity.specs.Members.{mark}
 use Rattle.atomicity.specs.Neighbours.{owner-of}
-use Rattle.atomicity.specs.Invariant.{Hubs, taken, Msg, erase, Linked, Inv}
+use Rattle.atomicity.specs.Invariant.{Hubs, locking, Msg, erase, Linked, Inv}
 use Rattle.atomicity.specs.Invariant.{lookup, join, leaveReq}
 use Rattle.atomicity.specs.OneStep.{no-join, apart-more}
 use Rattle.atomicity.specs.Roles.{outside-free}
 use Rattle.atomicity.specs.Calm.{Rewritten, points-row, fwd-same, Serves, calm, busy, sent as calm-sent}
-use Rattle.atomicity.specs.Good.{coreOf, rowOf, hubs, rewritten, kept-names, waits, asks, total, total-append, Numbers, nums, Holds, Good, Fine, fine-accepted, fine-refused, onward-fine}
+use Rattle.atomicity.specs.Good.{coreOf, hubs, rewritten, kept-names, waits, asks, total, total-append, Numbers, nums, Holds, Good, Fine, fine-accepted, fine-refused, onward-fine}
 
 -- state 2 to 4
-pub ring-states : (h : Row) → T (inRing h) → (2 ≤ h .state) × (h .state ≤ 4)
+pub ring-states : (h : Row) → T (inRing h) → (INSIDE ≤ h .state) × (h .state ≤ LEAVING)
 unfolding inRing
 ring-states h t =
-    (leb→le 2 (h .state) (and-left (leb 2 (h .state)) (ltb (h .state) 5) t), omega (arith, ltb→lt (h .state) 5 (and-right (leb 2 (h .state)) (ltb (h .state) 5) t)))
+    (leb→le INSIDE (h .state) (and-left (leb INSIDE (h .state)) (leb (h .state) LEAVING) t), leb→le (h .state) LEAVING (and-right (leb INSIDE (h .state)) (leb (h .state) LEAVING) t))
 
 -- the rows
 module _ {n : ℕ} {id : ℕ → ℕ} {c : ℕ} {S S′ : Hubs} {ms : List Msg} (i : Inv n id c S [] ms) (ls : (h : ℕ) → S′ .led h ≡ S .led h) where
-  enter-row : (x y : ℕ) → x < c → S .core x .state ≡ 0 → Rewritten S S′ x (taken (S .core x) 1) (S .succ x) → Inv n id c S′ [] (ms ++ (join x y x ∷ []))
+  enter-row : (x y : ℕ) → x < c → S .core x .state ≡ OUTSIDE → Rewritten S S′ x (locking (S .core x) JOINING) (S .succ x) → Inv n id c S′ [] (ms ++ (join x y x ∷ []))
   enter-row x y lx z w =
       calm {is = x ∷ []} i w ls (record {
         apart = apart-more i x lk;
@@ -66,7 +68,7 @@ module _ {n : ℕ} {id : ℕ → ℕ} {c : ℕ} {S S′ : Hubs} {ms : List Msg} 
       flag : S .core x .flag ≡ 0
       flag = elim (i .flags x) [ inl e ↦ e | inr e ↦ absurd (omega arith) ]
 
-  leave-row : (x : ℕ) → 2 ≤ S .core x .state → S .core x .lock ≡ 0 → S .succ x ≢ x → Rewritten S S′ x (taken (S .core x) 3) (S .succ x)
+  leave-row : (x : ℕ) → INSIDE ≤ S .core x .state → S .core x .lock ≡ 0 → S .succ x ≢ x → Rewritten S S′ x (locking (S .core x) WANTING-TO-LEAVE) (S .succ x)
       → Inv n id c S′ [] (ms ++ (leaveReq x (S .succ x) ∷ []))
   leave-row x l2 z ne w =
       calm {is = x ∷ []} i w ls (record {
@@ -98,10 +100,10 @@ module _ {n : ℕ} {id : ℕ → ℕ} {c : ℕ} {S S′ : Hubs} {ms : List Msg} 
         fifo = ((λ e. inr (inl (record { low = rw (w .core) (omega arith); high = rw (w .core) (omega arith); at = w .succ }))), tt);
       })
     where
-      B : Linked S x 2
+      B : Linked S x INSIDE
       B = elim (i .idle x z) [ inl e ↦ absurd (omega arith) | inr k ↦ k ]
 
-      serve : (h : ℕ) → Serves (S .core x) (S .led h) h → Serves (taken (S .core x) 3) (S .led h) h
+      serve : (h : ℕ) → Serves (S .core x) (S .led h) h → Serves (locking (S .core x) WANTING-TO-LEAVE) (S .led h) h
       serve h k = (omega arith, omega arith, k .2)
 
 module _ (id : ℕ → ℕ) (small : (h : ℕ) → id h < round) (c : ℕ) (s : State) (members ks : List ℕ) (G : Good id c s members ks) where

@@ -1,32 +1,32 @@
 -- A waiting message that is oldest on its link is delivered, never refused, and all is good afterwards. Assumes nothing.
-use mathlib.Core.Path.{_≡_, refl, sym, _∙_, ap, subst}
+use mathlib.Core.Path.{_≡_, refl, sym, ap, subst}
 use mathlib.Core.Logic.{inl, inr, _≢_}
-use mathlib.Core.Bool.{Bool, false, not, _&&_}
+use mathlib.Core.Bool.{false, not, _&&_}
 use mathlib.Core.List.{List, [], _∷_, _++_, map, append-nil}
 use Prim.Native.Nat.{ℕ, _+_, _≤_, _<_}
 use native.Mathlib.Omega.{arith}
-use lib.Dec.{T, leb, ltb, eqb, le→leb, lt→ltb, eqb→eq, nltb→le, T-not}
+use lib.Dec.{T, leb, ltb, eqb, le→leb, lt→ltb, nltb→le, T-not}
 use lib.ListN.{length, set}
 use lib.Seq.{set-getD}
 use Rattle.clockwise.specs.Laws.{In}
-use Rattle.lists.specs.Choice.{if_then_else_, choose, passes}
-use Rattle.lists.specs.Members.{Mem, mem-mid, times, All}
+use Rattle.lists.specs.Basics.{if_then_else_, Mem, times}
+use Rattle.lists.specs.Choice.{choose, passes}
+use Rattle.lists.specs.Members.{mem-mid}
 use Rattle.lists.specs.Tests.{and-both, →eqb}
 use Rattle.protocol.specs.declared.Row.{Row}
 use Rattle.protocol.specs.declared.Message.{Message}
 use Rattle.protocol.specs.declared.Answer.{Answer}
 use Rattle.protocol.specs.declared.Answer.the-variants.{Quiet, Found, Entered, Gone, JoinTurnedAway, LeaveTurnedAway, Joined, Left}
-use Rattle.protocol.specs.declared.Route.{Route}
-use Rattle.protocol.specs.declared.Route.the-variants.{Own, To}
 use Rattle.protocol.specs.declared.Decision.{Decision}
-use Rattle.protocol.specs.declared.Decision.the-variants.{Refuse, Reply, Send}
-use Rattle.protocol.specs.Record.{round, State, outside, withRow, sent}
+use Rattle.protocol.specs.declared.Decision.the-variants.{Reply, Send}
+use Rattle.protocol.specs.Names.{INSIDE, JOINING, LEAVING, WANTING-TO-LEAVE}
+use Rattle.protocol.specs.Record.{round, State, outside}
 use Rattle.protocol.specs.Routing.{inRing, responsible}
 use Rattle.protocol.specs.Kinds as kinds
 use Rattle.protocol.specs.Kinds.{note, question, grown, lookupRouted, joinRouted, admitted, handle}
-use Rattle.protocol.specs.Step.{Result, accepted, conclude}
+use Rattle.protocol.specs.Step.{conclude}
 use Rattle.protocol.specs.Membership.{afterAnswer, foundTicket}
-use Rattle.atomicity.specs.Members.{mark, taken-same, taken-other, struck-same, struck-other}
+use Rattle.atomicity.specs.Members.{mark, takenIn-same, takenIn-other, struck-same, struck-other}
 use Rattle.atomicity.specs.Neighbours.{owner-of}
 use Rattle.atomicity.specs.Invariant.{Hubs, Msg, erase, to, owners, Loc, Way, Inv}
 use Rattle.atomicity.specs.Invariant.{lookup, join, joinRetry, joinPoint, newSucc, newSuccAck, joinDone}
@@ -37,16 +37,16 @@ use Rattle.atomicity.specs.Roles.{reach, state-le, newcomer}
 use Rattle.atomicity.specs.Joins as joins
 use Rattle.atomicity.specs.Leaves as leaves
 use Rattle.atomicity.specs.Moves.{join-enter, leave-point}
-use Rattle.atomicity.specs.Good.{coreOf, rowOf, hubs, rewritten, total, waits, asks, Numbers, nums, Holds, Good, Names, Next, Fine, fine-accepted, finish, route-fine}
+use Rattle.atomicity.specs.Good.{coreOf, rowOf, hubs, rewritten, waits, asks, Numbers, nums, Holds, Names, Fine, fine-accepted, finish, route-fine}
 
 -- the receivers' conditions
-in-ring : (h : Row) → 2 ≤ h .state → h .state ≤ 4 → T (inRing h)
+in-ring : (h : Row) → INSIDE ≤ h .state → h .state ≤ LEAVING → T (inRing h)
 unfolding inRing
-in-ring h l u = and-both (leb 2 (h .state)) (ltb (h .state) 5) (le→leb 2 (h .state) l) (lt→ltb (h .state) 5 (omega arith))
+in-ring h l u = and-both (leb INSIDE (h .state)) (leb (h .state) LEAVING) (le→leb INSIDE (h .state) l) (le→leb (h .state) LEAVING u)
 
-is-responsible : (h : Row) → 2 ≤ h .state → h .state ≤ 3 → T (responsible h)
+is-responsible : (h : Row) → INSIDE ≤ h .state → h .state ≤ WANTING-TO-LEAVE → T (responsible h)
 unfolding responsible
-is-responsible h l u = and-both (leb 2 (h .state)) (ltb (h .state) 4) (le→leb 2 (h .state) l) (lt→ltb (h .state) 4 (omega arith))
+is-responsible h l u = and-both (leb INSIDE (h .state)) (ltb (h .state) LEAVING) (le→leb INSIDE (h .state) l) (lt→ltb (h .state) LEAVING (omega arith))
 
 two-eqb : (a x b y : ℕ) → a ≡ x → b ≡ y → T (eqb a x && eqb b y)
 two-eqb a x b y e f = and-both (eqb a x) (eqb b y) (→eqb a x e) (→eqb b y f)
@@ -249,16 +249,16 @@ module _ (id : ℕ → ℕ) (small : (h : ℕ) → id h < round) (c : ℕ) (inj 
       m : Msg
       m = lookup x y v k h
 
-      w : (2 ≤ rowOf rows y .state) × (rowOf rows y .state ≤ 4)
+      w : (INSIDE ≤ rowOf rows y .state) × (rowOf rows y .state ≤ LEAVING)
       w = reach s m t (H .inv) cl tt
 
       N : Numbers c m
       N = num-of m H
 
-      led1 : rowOf rows y .state ≢ 4 → mark members y ≡ 1
+      led1 : rowOf rows y .state ≢ LEAVING → mark members y ≡ 1
       led1 ne = H .inv .member y .inside (w .0) (omega (arith, w .1))
 
-      pass : (z : ℕ) → Way S y z [] → 1 ≤ rowOf rows z .state → Ok y (Send (rowOf rows y) (question y z v k (grown (erase m))) Quiet)
+      pass : (z : ℕ) → Way S y z [] → JOINING ≤ rowOf rows z .state → Ok y (Send (rowOf rows y) (question y z v k (grown (erase m))) Quiet)
       pass z wy l = send m H (rowOf rows y) refl Quiet (lookup y z v k (grown (erase m))) _ refl tt
           (unchanged y (calm-sent (take-out s m t cl (H .inv))
           (record { same = λ z. refl; fresh = (tt, tt); nojoin = no-join (lookup y z v k (grown (erase m))) (λ e. omega arith); fifo = ((λ e. wy), tt) })))
@@ -269,8 +269,8 @@ module _ (id : ℕ → ℕ) (small : (h : ℕ) → id h < round) (c : ℕ) (inj 
       → Ok y (kinds.join (rowOf rows (rowOf rows y .pred) .identifier) (rowOf rows y) (rowOf rows a) (erase (join x y a)))
   unfolding kinds.join joinRouted
   join-fine x y a cl H =
-      passes (Ok y) _ _ _ (→eqb _ 1 (L .0)) (choose (Ok y) (ltb (rowOf rows y .state) 2) _ _ (λ z. again)
-      (λ z. let l : 2 ≤ rowOf rows y .state = nltb→le (rowOf rows y .state) 2 z in
+      passes (Ok y) _ _ _ (→eqb _ 1 (L .0)) (choose (Ok y) (ltb (rowOf rows y .state) INSIDE) _ _ (λ z. again)
+      (λ z. let l : INSIDE ≤ rowOf rows y .state = nltb→le (rowOf rows y .state) INSIDE z in
       route-fine (Ok y) (joinRouted (rowOf rows y) (erase m)) _ (rowOf rows y) (rowOf rows a .identifier) x
       (λ f. pass (rowOf rows y .pred) (newcomer (H .inv) y f))
       (pass (rowOf rows y .succ) (omega (arith, H .inv .fwd y l (state-le (H .inv) y) .low)))
@@ -278,7 +278,7 @@ module _ (id : ℕ → ℕ) (small : (h : ℕ) → id h < round) (c : ℕ) (inj 
       (λ q. send m H (admitted (rowOf rows y) a) refl (Entered a) (joinPoint a y (rowOf rows y .pred)) _ refl tt
       (join-enter round id small c inj S _ s t x y a cl (H .inv) (unlocked (H .inv) y q) l
       (subst (λ z. In round (id (rowOf rows y .pred)) (id y) z) (H .names a) (range m H y (rowOf rows a .identifier) own))
-      (rewritten rows (mark members) _ y _ (hub-of m H)) (taken-same members a) (taken-other members a))
+      (rewritten rows (mark members) _ y _ (hub-of m H)) (takenIn-same members a) (takenIn-other members a))
       (λ i. omega arith) (omega arith)
       (nums (joinPoint a y (rowOf rows y .pred)) (N .dst) ca (λ e. omega arith))))))
     where
@@ -300,7 +300,7 @@ module _ (id : ℕ → ℕ) (small : (h : ℕ) → id h < round) (c : ℕ) (inj 
           (record { same = λ z. omega arith; fresh = (L, tt); nojoin = no-join (joinRetry y a) (λ e. omega arith); fifo = ((λ e. absurd e), tt) })))
           (λ i. omega arith) (omega arith) (nums (joinRetry y a) (N .dst) ca (λ e. omega arith))
 
-      pass : (z : ℕ) → 1 ≤ rowOf rows z .state → Ok y (Send (rowOf rows y) (note 2 y z a) Quiet)
+      pass : (z : ℕ) → JOINING ≤ rowOf rows z .state → Ok y (Send (rowOf rows y) (note 2 y z a) Quiet)
       pass z l = send m H (rowOf rows y) refl Quiet (join y z a) _ refl tt
           (unchanged y (calm-sent (take-out s m t cl (H .inv))
           (record { same = λ z. omega arith; fresh = (L, tt); nojoin = no-join (join y z a) (λ e. omega arith); fifo = ((λ e. absurd e), tt) })))

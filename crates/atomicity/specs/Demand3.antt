@@ -6,12 +6,12 @@ use mathlib.Core.Bool.{true}
 use mathlib.Core.List.{List, [], _∷_, _++_}
 use Prim.Native.Nat.{ℕ, _+_, _≤_, _<_}
 use lib.ListN.{length}
-use Rattle.lists.specs.Members.{Mem, All, times}
+use Rattle.lists.specs.Basics.{Mem, All, times}
 use Rattle.protocol.specs.declared.Message.{Message}
 use Rattle.protocol.specs.declared.Answer.the-variants.{Quiet, Found}
 use Rattle.protocol.specs.declared.Outcome.{Outcome}
 use Rattle.protocol.specs.declared.Outcome.the-variants.{Refused, Answered}
-use Rattle.protocol.specs.Record.{round, read}
+use Rattle.protocol.specs.Record.{round, State, read}
 use Rattle.protocol.specs.Calls.{Called, stepCall, freshCall}
 use Rattle.protocol.specs.Membership.{foundingMembers, afterOutcome, node, ownerAmong, holds, waiting, ticketOf, acceptedAsk}
 
@@ -30,8 +30,17 @@ pub record ThreeWords (c : Call) : Type 0 where
   pub x : Word (c .x)
   pub y : Word (c .y)
 
-abbrev pub called : List ℕ → Call → Called
-called w c = stepCall w (c .operation) (c .x) (c .y)
+-- A form of record: the state that its words stand for, the fresh call and the step.
+pub record Engine : Type 0 where
+  pub reads : List ℕ → State
+  pub founds : List ℕ → List ℕ → Called
+  pub steps : List ℕ → ℕ → ℕ → ℕ → Called
+
+abbrev pub present : Engine
+present = record { reads = read; founds = freshCall; steps = stepCall }
+
+abbrev pub called : Engine → List ℕ → Call → Called
+called engine w c = engine .steps w (c .operation) (c .x) (c .y)
 
 -- A call with what it gave.
 pub record Event : Type 0 where
@@ -39,13 +48,13 @@ pub record Event : Type 0 where
   pub outcome : Outcome
 
 -- 'Each gets the record as the call before left it, after a refusal too'.
-unfoldable pub history : List ℕ → List Call → List Event
-history w [] = []
-history w (c ∷ calls) = record { call = c; outcome = called w c .outcome } ∷ history (called w c .slice) calls
+unfoldable pub history : Engine → List ℕ → List Call → List Event
+history engine w [] = []
+history engine w (c ∷ calls) = record { call = c; outcome = called engine w c .outcome } ∷ history engine (called engine w c .slice) calls
 
-unfoldable pub recordAfter : List ℕ → List Call → List ℕ
-recordAfter w [] = w
-recordAfter w (c ∷ calls) = recordAfter (called w c .slice) calls
+unfoldable pub recordAfter : Engine → List ℕ → List Call → List ℕ
+recordAfter engine w [] = w
+recordAfter engine w (c ∷ calls) = recordAfter engine (called engine w c .slice) calls
 
 -- The ledger after some calls, from its members before them.
 unfoldable pub membersAfter : List ℕ → List Event → List ℕ
@@ -61,27 +70,41 @@ unfoldable pub foundTickets : List Event → List ℕ
 foundTickets [] = []
 foundTickets (e ∷ events) = ticketOf (e .outcome) ++ foundTickets events
 
+-- A record reached from a fresh ring, with the calls behind it: any lent slice, any identifiers that fresh accepts, and any list of calls,
+-- refused ones included.
+pub record Founded (engine : Engine) (ids : List ℕ) (events : List Event) (w : List ℕ) : Type 0 where
+  pub slice : List ℕ
+  pub calls : List Call
+  pub identifiers : All Word ids
+  pub commands : All ThreeWords calls
+  pub accepted : engine .founds slice ids .outcome ≡ Answered Quiet
+  pub happened : events ≡ history engine (engine .founds slice ids .slice) calls
+  pub is : w ≡ recordAfter engine (engine .founds slice ids .slice) calls
+
+abbrev pub Reached : List ℕ → List Event → List ℕ → Type 0
+Reached ids events w = Founded present ids events w
+
+pub from-fresh : {ids : List ℕ} {events : List Event} {w : List ℕ} → Founded present ids events w → Reached ids events w
+from-fresh r = r
+
 -- What is claimed of a ring of these identifiers, with these calls behind it and the record w.
-pub record Claims (ids : List ℕ) (events : List Event) (w : List ℕ) : Type 0 where
+pub record Claims (engine : Engine) (ids : List ℕ) (events : List Event) (w : List ℕ) : Type 0 where
   -- (a) For every machine number at most one hub holds it, and that hub is the ledger's owner of it.
-  pub single : (v hub other : ℕ) → Word v → holds (read w) hub v ≡ true → holds (read w) other v ≡ true → hub ≡ other
-  pub owner : (v hub : ℕ) → Word v → holds (read w) hub v ≡ true
+  pub single : (v hub other : ℕ) → Word v → holds (engine .reads w) hub v ≡ true → holds (engine .reads w) other v ≡ true → hub ≡ other
+  pub owner : (v hub : ℕ) → Word v → holds (engine .reads w) hub v ≡ true
       → ownerAmong ids (membersAfter (foundingMembers ids) events) v ≡ node hub
   -- (b) Each found answer names the ledger's owner of its number at that call: the ledger that the calls before it left.
   pub found : (before : List Event) (e : Event) (after : List Event) → events ≡ before ++ (e ∷ after)
       → (hub number ticket hops : ℕ) → e .outcome ≡ Answered (Found hub number ticket hops)
       → ownerAmong ids (membersAfter (foundingMembers ids) before) number ≡ node hub
   -- (c) Questions accepted = questions answered + questions waiting.
-  pub questions : questionsAccepted events ≡ length (foundTickets events) + waiting (read w .messages)
+  pub questions : questionsAccepted events ≡ length (foundTickets events) + waiting (engine .reads w .messages)
   -- (d) No two found answers have the same ticket.
   pub once : (ticket : ℕ) → times (foundTickets events) ticket ≤ 1
   -- (e) A next deliver call that names the sender and receiver of any waiting message is not refused.
-  pub next : (m : Message) → Mem m (read w .messages) → (k : ℕ)
-      → called w (record { operation = 3; x = m .from; y = m .to }) .outcome ≡ Refused k → ⊥
+  pub next : (m : Message) → Mem m (engine .reads w .messages) → (k : ℕ)
+      → called engine w (record { operation = 3; x = m .from; y = m .to }) .outcome ≡ Refused k → ⊥
 
--- For every lent slice, every list of identifiers that fresh accepts, and every list of calls, refused ones included.
+-- For every reached record: one list of calls, one ledger.
 unfoldable pub Demand3 : Type 0
-Demand3 =
-    (slice ids : List ℕ) (calls : List Call) → All Word ids → All ThreeWords calls
-    → freshCall slice ids .outcome ≡ Answered Quiet
-    → Claims ids (history (freshCall slice ids .slice) calls) (recordAfter (freshCall slice ids .slice) calls)
+Demand3 = (ids : List ℕ) (events : List Event) (w : List ℕ) → Reached ids events w → Claims present ids events w

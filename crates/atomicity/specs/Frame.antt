@@ -5,10 +5,12 @@ use mathlib.Core.Logic.{inl, inr, _≢_}
 use mathlib.Core.List.{List}
 use Prim.Native.Nat.{ℕ, _≤_}
 use native.Mathlib.Omega.{arith}
-use Rattle.lists.specs.Members.{All, Off}
+use Rattle.lists.specs.Basics.{All}
+use Rattle.lists.specs.Members.{Off}
 use Rattle.atomicity.specs.Invariant.{Hubs, Msg, owners, Points, Plain, Flagged, Linked, Loc, Idle}
 use Rattle.atomicity.specs.Invariant.{lookup, join, joinRetry, joinPoint, newSucc, newSuccAck, joinDone}
 use Rattle.atomicity.specs.Invariant.{leaveReq, leaveRetry, leaveGrant, leavePoint, updateSucc, stopForward, leaveDone}
+use Rattle.protocol.specs.Names.{INSIDE, LEAVING, WANTING-TO-LEAVE}
 
 -- the parts of a message's condition, at rows that are the same in both states
 module _ {S S′ : Hubs} where
@@ -28,12 +30,12 @@ module _ {S S′ : Hubs} where
 pub record Keeps (S S′ : Hubs) (is : List ℕ) : Type 0 where
   pub core : (h : ℕ) → Off is h → S′ .core h ≡ S .core h
   pub led : (h : ℕ) → Off is h → S′ .led h ≡ S .led h
-  pub succ : (p : ℕ) → 2 ≤ S .core p .state → S .core p .state ≤ 4 → Off is (S .succ p) → S′ .succ p ≡ S .succ p
-  pub stay : (p : ℕ) → 2 ≤ S .core p .state → S .core p .state ≤ 3 → Off is (S .succ p) → (2 ≤ S′ .core p .state) × (S′ .core p .state ≤ 3)
+  pub succ : (p : ℕ) → INSIDE ≤ S .core p .state → S .core p .state ≤ LEAVING → Off is (S .succ p) → S′ .succ p ≡ S .succ p
+  pub stay : (p : ℕ) → INSIDE ≤ S .core p .state → S .core p .state ≤ WANTING-TO-LEAVE → Off is (S .succ p) → (INSIDE ≤ S′ .core p .state) × (S′ .core p .state ≤ WANTING-TO-LEAVE)
   pub self : (h : ℕ) → Off is h → S .succ h ≢ h → S′ .succ h ≢ h
 
 module _ {S S′ : Hubs} {is : List ℕ} (k : Keeps S S′ is) where
-  pub keep-succ : (q t : ℕ) → Off is t → 2 ≤ S .core q .state → S .core q .state ≤ 4 → S .succ q ≡ t → S′ .succ q ≡ t
+  pub keep-succ : (q t : ℕ) → Off is t → INSIDE ≤ S .core q .state → S .core q .state ≤ LEAVING → S .succ q ≡ t → S′ .succ q ≡ t
   keep-succ q t o l u e = k .succ q l u (subst (Off is) (sym e) o) ∙ e
 
   pub keep-points : (p h : ℕ) → Off is h → Points S p h → Points S′ p h

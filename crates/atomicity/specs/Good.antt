@@ -1,18 +1,19 @@
 -- What holds between two calls: the invariant of the rows and messages, of the tickets and of the numbers in the messages.
 -- And what a step has to show of its result. Assumes nothing.
-use mathlib.Core.Path.{_≡_, refl, sym, _∙_, ap, subst}
+use mathlib.Core.Path.{_≡_, sym, _∙_, ap}
 use mathlib.Core.Logic.{_⊎_, inl, inr, _≢_}
-use mathlib.Core.Bool.{Bool, true, false, not, _&&_}
+use mathlib.Core.Bool.{Bool, true, false, _&&_}
 use mathlib.Core.List.{List, [], _∷_, _++_, map, map-append}
 use Prim.Native.Nat.{ℕ, _+_, _≤_, _<_}
 use native.Mathlib.Decide.{decLt}
 use native.Mathlib.Omega.{arith}
-use lib.Dec.{T, leb, ltb, eqb, eqb→eq, T-not}
+use lib.Dec.{T, eqb, eqb→eq, T-not}
 use lib.ListN.{length, getD, set, length-set}
-use lib.Seq.{getD-set-same, getD-set-other, set-getD, set-out}
+use lib.Seq.{getD-set-same, getD-set-other, set-out}
 use Rattle.clockwise.specs.Laws.{In, within-in}
-use Rattle.lists.specs.Choice.{if_then_else_, choose, passes}
-use Rattle.lists.specs.Members.{Mem, mem-split, mem-put, All, all-mem, times, by-row}
+use Rattle.lists.specs.Basics.{Mem, All, times}
+use Rattle.lists.specs.Choice.{choose}
+use Rattle.lists.specs.Members.{mem-split, mem-put, all-mem, by-row}
 use Rattle.lists.specs.Tests.{and-left, →eqb}
 use Rattle.protocol.specs.declared.Row.{Row}
 use Rattle.protocol.specs.declared.Message.{Message}
@@ -20,8 +21,9 @@ use Rattle.protocol.specs.declared.Answer.{Answer}
 use Rattle.protocol.specs.declared.Answer.the-variants.{Quiet, Found, Entered, Gone, JoinTurnedAway, LeaveTurnedAway, Joined, Left}
 use Rattle.protocol.specs.declared.Route.{Route}
 use Rattle.protocol.specs.declared.Route.the-variants.{Own, To}
-use Rattle.protocol.specs.Record.{round, State, outside, withRow}
-use Rattle.protocol.specs.Routing.{inRing, responsible, covers, onward, route}
+use Rattle.protocol.specs.Names.{LEAVING}
+use Rattle.protocol.specs.Record.{round, State, outside}
+use Rattle.protocol.specs.Routing.{covers, onward, route}
 use Rattle.protocol.specs.Step.{Result, refused, accepted}
 use Rattle.protocol.specs.Membership.{afterAnswer, foundTicket}
 use Rattle.atomicity.specs.Members.{mark}
@@ -190,13 +192,13 @@ module _ {id : ℕ → ℕ} {c : ℕ} {rows : List Row} {asked : ℕ} {members k
 
 -- routing: what holds of a decision by a route, from what holds where the hub owns the number and where it sends it on
 module _ {A : Type 0} (P : A → Type 0) (f : Route → A) (p : ℕ) (h : Row) (v : ℕ) where
-  pub onward-fine : P (f (To (h .succ))) → (h .state ≢ 4 → In round p (h .identifier) v → P (f Own)) → P (f (onward p h v))
+  pub onward-fine : P (f (To (h .succ))) → (h .state ≢ LEAVING → In round p (h .identifier) v → P (f Own)) → P (f (onward p h v))
   unfolding onward covers
   onward-fine s o =
-      choose (λ z. P (f z)) (eqb (h .state) 4) (To (h .succ)) _ (λ _. s)
-      (λ n. choose (λ z. P (f z)) _ Own (To (h .succ)) (λ i. o (λ e. T-not (eqb (h .state) 4) n (→eqb _ _ e)) (within-in round p (h .identifier) v i)) (λ _. s))
+      choose (λ z. P (f z)) (eqb (h .state) LEAVING) (To (h .succ)) _ (λ _. s)
+      (λ n. choose (λ z. P (f z)) _ Own (To (h .succ)) (λ i. o (λ e. T-not (eqb (h .state) LEAVING) n (→eqb _ _ e)) (within-in round p (h .identifier) v i)) (λ _. s))
 
-  pub route-fine : (x : ℕ) → (h .flag ≡ 1 → P (f (To (h .pred)))) → P (f (To (h .succ))) → (h .state ≢ 4 → In round p (h .identifier) v → P (f Own))
+  pub route-fine : (x : ℕ) → (h .flag ≡ 1 → P (f (To (h .pred)))) → P (f (To (h .succ))) → (h .state ≢ LEAVING → In round p (h .identifier) v → P (f Own))
       → P (f (route p h x v))
   unfolding route
   route-fine x r s o =

@@ -5,8 +5,9 @@ use mathlib.Core.Bool.{Bool, true, false}
 use mathlib.Core.List.{List, [], _∷_}
 use Prim.Native.Nat.{ℕ, _+_, _≤_, _<_}
 use lib.Dec.{T}
-use Rattle.lists.specs.Members.{Mem, times}
+use Rattle.lists.specs.Basics.{Mem, times}
 use Rattle.protocol.specs.declared.Message.{Message}
+use Rattle.protocol.specs.Names.{INSIDE, JOINING, LEAVING, OUTSIDE, WANTING-TO-LEAVE}
 use Rattle.protocol.specs.Kinds.{question, note}
 use Rattle.atomicity.specs.Neighbours.{PredL}
 
@@ -25,8 +26,8 @@ pub record Hubs : Type 0 where
   pub led : ℕ → ℕ
 
 -- The rows that a step writes, but for succ. 255 is none.
-abbrev pub taken : Core → ℕ → Core
-taken x c = record { state = c; lock = 1; flag = x .flag; pred = x .pred; oldpred = x .oldpred }
+abbrev pub locking : Core → ℕ → Core
+locking x c = record { state = c; lock = 1; flag = x .flag; pred = x .pred; oldpred = x .oldpred }
 
 abbrev pub free : Core → ℕ → Core
 free x c = record { state = c; lock = 0; flag = x .flag; pred = x .pred; oldpred = x .oldpred }
@@ -44,7 +45,7 @@ abbrev pub acked : Core → Core
 acked x = record { state = x .state; lock = 0; flag = 0; pred = x .pred; oldpred = 255 }
 
 abbrev pub departed : Core → Core
-departed x = record { state = 0; lock = 0; flag = x .flag; pred = 255; oldpred = 255 }
+departed x = record { state = OUTSIDE; lock = 0; flag = x .flag; pred = 255; oldpred = 255 }
 
 -- A waiting message with its participants. a joins between p and t; q leaves from between p and t.
 pub data Msg : Type 0 where
@@ -103,14 +104,14 @@ owners (updateSucc q t p) = q ∷ t ∷ []
 owners (stopForward q t p) = q ∷ t ∷ []
 owners (leaveDone q t) = t ∷ []
 
-abbrev pub held : List Msg → ℕ → ℕ
-held [] h = 0
-held (m ∷ ms) h = times (owners m) h + held ms h
+abbrev pub carriers : List Msg → ℕ → ℕ
+carriers [] h = 0
+carriers (m ∷ ms) h = times (owners m) h + carriers ms h
 
 -- p is in the ring and its succ is h
 pub record Points (S : Hubs) (p h : ℕ) : Type 0 where
-  pub low : 2 ≤ S .core p .state
-  pub high : S .core p .state ≤ 3
+  pub low : INSIDE ≤ S .core p .state
+  pub high : S .core p .state ≤ WANTING-TO-LEAVE
   pub at : S .succ p ≡ h
 
 -- h in state c, without a newcomer before it, its pred p
@@ -121,7 +122,7 @@ pub record Plain (S : Hubs) (h c p : ℕ) : Type 0 where
 
 -- t sends what comes from p on to the newcomer a
 pub record Flagged (S : Hubs) (t a p : ℕ) : Type 0 where
-  pub state : S .core t .state ≡ 2
+  pub state : S .core t .state ≡ INSIDE
   pub flag : S .core t .flag ≡ 1
   pub pred : S .core t .pred ≡ a
   pub oldpred : S .core t .oldpred ≡ p
@@ -135,39 +136,39 @@ pub record Linked (S : Hubs) (h c : ℕ) : Type 0 where
 -- what holds of the participants while the message waits
 abbrev pub Loc : Hubs → Msg → Type 0
 Loc S (lookup x y v k hops) = Unit {0}
-Loc S (join x y a) = (S .core a .state ≡ 1) × (S .led a ≡ 0)
-Loc S (joinRetry x a) = (S .core a .state ≡ 1) × (S .led a ≡ 0)
-Loc S (joinPoint a t p) = (S .core a .state ≡ 1) × (S .led a ≡ 1) × Flagged S t a p × Points S p t
-Loc S (newSucc a t p) = Plain S a 2 p × (S .succ a ≡ t) × Flagged S t a p × Points S p t
-Loc S (newSuccAck a t p) = Plain S a 2 p × (S .succ a ≡ t) × Flagged S t a p × Points S p a
-Loc S (joinDone a t) = Linked S a 2
-Loc S (leaveReq q y) = Linked S q 3 × (S .succ q ≢ q)
-Loc S (leaveRetry x q) = Linked S q 3 × (S .succ q ≢ q)
-Loc S (leaveGrant q t) = Linked S q 3 × (S .succ q ≡ t) × Plain S t 2 q
-Loc S (leavePoint q t p) = Plain S q 4 p × (S .led q ≡ 1) × Points S p q × (S .succ q ≡ t) × Plain S t 2 q
-Loc S (updateSucc q t p) = Plain S q 4 p × (S .led q ≡ 0) × Points S p q × (S .succ q ≡ t) × Plain S t 2 p
-Loc S (stopForward q t p) = Plain S q 4 p × (S .led q ≡ 0) × Points S p t × (S .succ q ≡ t) × Plain S t 2 p
-Loc S (leaveDone q t) = Linked S t 2
+Loc S (join x y a) = (S .core a .state ≡ JOINING) × (S .led a ≡ 0)
+Loc S (joinRetry x a) = (S .core a .state ≡ JOINING) × (S .led a ≡ 0)
+Loc S (joinPoint a t p) = (S .core a .state ≡ JOINING) × (S .led a ≡ 1) × Flagged S t a p × Points S p t
+Loc S (newSucc a t p) = Plain S a INSIDE p × (S .succ a ≡ t) × Flagged S t a p × Points S p t
+Loc S (newSuccAck a t p) = Plain S a INSIDE p × (S .succ a ≡ t) × Flagged S t a p × Points S p a
+Loc S (joinDone a t) = Linked S a INSIDE
+Loc S (leaveReq q y) = Linked S q WANTING-TO-LEAVE × (S .succ q ≢ q)
+Loc S (leaveRetry x q) = Linked S q WANTING-TO-LEAVE × (S .succ q ≢ q)
+Loc S (leaveGrant q t) = Linked S q WANTING-TO-LEAVE × (S .succ q ≡ t) × Plain S t INSIDE q
+Loc S (leavePoint q t p) = Plain S q LEAVING p × (S .led q ≡ 1) × Points S p q × (S .succ q ≡ t) × Plain S t INSIDE q
+Loc S (updateSucc q t p) = Plain S q LEAVING p × (S .led q ≡ 0) × Points S p q × (S .succ q ≡ t) × Plain S t INSIDE p
+Loc S (stopForward q t p) = Plain S q LEAVING p × (S .led q ≡ 0) × Points S p t × (S .succ q ≡ t) × Plain S t INSIDE p
+Loc S (leaveDone q t) = Linked S t INSIDE
 
 -- a hub that nobody has locked
 abbrev pub Idle : Hubs → ℕ → Type 0
-Idle S h = (S .core h .state ≡ 0) ⊎ Linked S h 2
+Idle S h = (S .core h .state ≡ OUTSIDE) ⊎ Linked S h INSIDE
 
 -- h's succ is in the ring, and knows h while h is a member
 pub record Fwd (S : Hubs) (h : ℕ) : Type 0 where
-  pub low : 2 ≤ S .core (S .succ h) .state
-  pub high : S .core (S .succ h) .state ≤ 4
+  pub low : INSIDE ≤ S .core (S .succ h) .state
+  pub high : S .core (S .succ h) .state ≤ LEAVING
   pub knows : S .led h ≡ 1
       → (S .core (S .succ h) .pred ≡ h) ⊎ ((S .core (S .succ h) .flag ≡ 1) × (S .core (S .succ h) .oldpred ≡ h))
 
 -- the flag stands in state 2 alone
 abbrev pub Flags : Core → Type 0
-Flags c = (c .flag ≡ 0) ⊎ ((c .flag ≡ 1) × (c .state ≡ 2))
+Flags c = (c .flag ≡ 0) ⊎ ((c .flag ≡ 1) × (c .state ≡ INSIDE))
 
 -- members by state
 pub record Member (c : Core) (l : ℕ) : Type 0 where
-  pub out : c .state ≡ 0 → l ≡ 0
-  pub inside : 2 ≤ c .state → c .state ≤ 3 → l ≡ 1
+  pub out : c .state ≡ OUTSIDE → l ≡ 0
+  pub inside : INSIDE ≤ c .state → c .state ≤ WANTING-TO-LEAVE → l ≡ 1
 
 -- questions on the way, and requests to leave
 abbrev pub asks : Msg → Bool
@@ -212,8 +213,8 @@ pub record Closed (x y : ℕ) (v : List Msg) : Type 0 where
   pub dst : to last ≡ y
 
 pub record Open (S : Hubs) (x y : ℕ) : Type 0 where
-  pub low : 2 ≤ S .core x .state
-  pub high : S .core x .state ≤ 4
+  pub low : INSIDE ≤ S .core x .state
+  pub high : S .core x .state ≤ LEAVING
   pub at : S .succ x ≡ y
 
 pub record Back (S : Hubs) (x y : ℕ) (v : List Msg) : Type 0 where
@@ -232,13 +233,13 @@ Fifo S (m ∷ v) = (T (asks m) → Way S (from m) (to m) v) × Fifo S v
 -- the message that is being delivered, and none between two steps.
 pub record Inv (n : ℕ) (id : ℕ → ℕ) (c : ℕ) (S : Hubs) (g : List ℕ) (ms : List Msg) : Type 0 where
   pub one : (h : ℕ) → S .core h .lock ≤ 1
-  pub count : (h : ℕ) → S .core h .lock ≡ times g h + held ms h
+  pub count : (h : ℕ) → S .core h .lock ≡ times g h + carriers ms h
   pub idle : (h : ℕ) → S .core h .lock ≡ 0 → Idle S h
   pub loc : (m : Msg) → Mem m ms → Loc S m
-  pub fwd : (h : ℕ) → 2 ≤ S .core h .state → S .core h .state ≤ 4 → Fwd S h
+  pub fwd : (h : ℕ) → INSIDE ≤ S .core h .state → S .core h .state ≤ LEAVING → Fwd S h
   pub flags : (h : ℕ) → Flags (S .core h)
   pub member : (h : ℕ) → Member (S .core h) (S .led h)
-  pub next : (h : ℕ) → 2 ≤ S .core h .state → S .led h ≡ 1 → PredL n id (S .led) (S .core h .pred) h
+  pub next : (h : ℕ) → INSIDE ≤ S .core h .state → S .led h ≡ 1 → PredL n id (S .led) (S .core h .pred) h
   pub entry : (a t p : ℕ) → Mem (joinPoint a t p) ms → PredL n id (S .led) p a
   pub fifo : Fifo S ms
-  pub below : (h : ℕ) → 1 ≤ S .core h .state → h < c
+  pub below : (h : ℕ) → JOINING ≤ S .core h .state → h < c

@@ -11,10 +11,11 @@ use Rattle.atomicity.specs.Invariant.{joinRetry, joinPoint, newSucc, new
 use Rattle.atomicity.specs.Frame.{points-at, plain-at, flagged-at}
 use Rattle.atomicity.specs.OneStep.{closed-by, no-join, Clear, take-out, apart-same, locked, distinct}
 use Rattle.atomicity.specs.Calm.{Rewritten, points-row, fwd-same, Serves, calm, busy}
+use Rattle.protocol.specs.Names.{INSIDE, OUTSIDE}
 
 -- a hub in the ring is set free: the end of a join, and of a leave
 pub release : {n : ℕ} {id : ℕ → ℕ} {c : ℕ} {S S′ : Hubs} {R : List Msg} {a : ℕ} → Inv n id c S (a ∷ []) R
-    → Rewritten S S′ a (free (S .core a) (S .core a .state)) (S .succ a) → ((h : ℕ) → S′ .led h ≡ S .led h) → Linked S a 2 → Inv n id c S′ [] (R ++ [])
+    → Rewritten S S′ a (free (S .core a) (S .core a .state)) (S .succ a) → ((h : ℕ) → S′ .led h ≡ S .led h) → Linked S a INSIDE → Inv n id c S′ [] (R ++ [])
 release {a = a} i w ls L =
     calm {is = a ∷ []} i w ls (record {
       apart = apart-same i;
@@ -93,7 +94,7 @@ module _ (n : ℕ) (id : ℕ → ℕ) (small : (h : ℕ) → id h < n) (c : ℕ)
           (i .member b .inside (omega (arith, L .2 .state)) (omega (arith, L .2 .state))) (λ e. distinct i (sym e))
 
   pub join-retry : (x a : ℕ) → Clear (joinRetry x a) s → Inv n id c S [] (s ++ (joinRetry x a ∷ t))
-      → Rewritten S S′ a (free (S .core a) 0) (S .succ a) → ((h : ℕ) → S′ .led h ≡ S .led h)
+      → Rewritten S S′ a (free (S .core a) OUTSIDE) (S .succ a) → ((h : ℕ) → S′ .led h ≡ S .led h)
       → Inv n id c S′ [] ((s ++ t) ++ [])
   join-retry x a cl j w ls =
       calm {is = a ∷ []} i w ls (record {
@@ -222,7 +223,7 @@ module _ (n : ℕ) (id : ℕ → ℕ) (small : (h : ℕ) → id h < n) (c : ℕ)
       pa : Points S′ a b
       pa = record { low = rw offa (omega (arith, L .0 .state)); high = rw offa (omega (arith, L .0 .state)); at = w .offs a (distinct i) ∙ L .1 }
 
-      linked : Linked S′ a 2
+      linked : Linked S′ a INSIDE
       linked = record { state = rw offa (L .0 .state); flag = rw offa (L .0 .flag); back = rw (offa, L .0 .pred) (points-row w p a refl (λ l u. (l, u)) (L .3)) }
 
       serve : (h : ℕ) → S .succ h ≡ b → Serves (S .core b) (S .led h) h → Serves (acked (S .core b)) (S .led h) h
@@ -240,5 +241,5 @@ module _ (n : ℕ) (id : ℕ → ℕ) (small : (h : ℕ) → id h < n) (c : ℕ)
       i : Inv n id c S (a ∷ []) (s ++ t)
       i = take-out s (joinDone a b) t cl j
 
-      L : Linked S a 2
+      L : Linked S a INSIDE
       L = j .loc (joinDone a b) (mem-mid s (joinDone a b) t)

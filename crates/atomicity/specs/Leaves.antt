@@ -6,18 +6,19 @@ use Prim.Native.Nat.{ℕ, _≤_, _<_}
 use native.Mathlib.Decide.{decLe}
 use native.Mathlib.Omega.{arith}
 use Rattle.lists.specs.Members.{mem-mid, by-row, ind-same, ind-ne}
-use Rattle.atomicity.specs.Invariant.{Hubs, taken, free, turned, departed, Msg, Linked, Loc, Idle, Fwd, Open, Inv}
+use Rattle.atomicity.specs.Invariant.{Hubs, locking, free, turned, departed, Msg, Linked, Loc, Idle, Fwd, Open, Inv}
 use Rattle.atomicity.specs.Invariant.{leaveReq, leaveRetry, leaveGrant, leavePoint, updateSucc, stopForward, leaveDone}
 use Rattle.atomicity.specs.Frame.{points-at, plain-at, linked-at}
 use Rattle.atomicity.specs.OneStep.{closed-by, no-join, Clear, take-out, apart-same, apart-more, locked, distinct}
 use Rattle.atomicity.specs.Roles.{carried, straight}
 use Rattle.atomicity.specs.Calm.{Rewritten, points-row, fwd-same, Serves, calm, busy, sent}
 use Rattle.atomicity.specs.Joins.{release}
+use Rattle.protocol.specs.Names.{INSIDE, LEAVING, WANTING-TO-LEAVE}
 
 module _ (n : ℕ) (id : ℕ → ℕ) (small : (h : ℕ) → id h < n) (c : ℕ) (S S′ : Hubs) (s t : List Msg) where
   -- LEAVEREQ at a free hub
   pub leave-req : (q b : ℕ) → Clear (leaveReq q b) s → Inv n id c S [] (s ++ (leaveReq q b ∷ t)) → S .core b .lock ≡ 0
-      → Rewritten S S′ b (taken (S .core b) (S .core b .state)) (S .succ b) → ((h : ℕ) → S′ .led h ≡ S .led h)
+      → Rewritten S S′ b (locking (S .core b) (S .core b .state)) (S .succ b) → ((h : ℕ) → S′ .led h ≡ S .led h)
       → Inv n id c S′ [] ((s ++ t) ++ (leaveGrant q b ∷ []))
   leave-req q b cl j z w ls =
       calm {is = b ∷ q ∷ []} i w ls (record {
@@ -71,7 +72,7 @@ module _ (n : ℕ) (id : ℕ → ℕ) (small : (h : ℕ) → id h < n) (c : ℕ)
       f : Fwd S q
       f = i .fwd q (o .low) (o .high)
 
-      B : Linked S b 2
+      B : Linked S b INSIDE
       B = elim (i .idle b z) [ inl e ↦ absurd (omega (arith, rw (o .at) at (f .low))) | inr x ↦ x ]
 
       known : (S .core (S .succ q) .pred ≡ q) ⊎ ((S .core (S .succ q) .flag ≡ 1) × (S .core (S .succ q) .oldpred ≡ q)) → S .core b .pred ≡ q
@@ -89,7 +90,7 @@ module _ (n : ℕ) (id : ℕ → ℕ) (small : (h : ℕ) → id h < n) (c : ℕ)
   })
 
   pub leave-retry : (x q : ℕ) → Clear (leaveRetry x q) s → Inv n id c S [] (s ++ (leaveRetry x q ∷ t))
-      → Rewritten S S′ q (free (S .core q) 2) (S .succ q) → ((h : ℕ) → S′ .led h ≡ S .led h)
+      → Rewritten S S′ q (free (S .core q) INSIDE) (S .succ q) → ((h : ℕ) → S′ .led h ≡ S .led h)
       → Inv n id c S′ [] ((s ++ t) ++ [])
   leave-retry x q cl j w ls =
       calm {is = q ∷ []} i w ls (record {
@@ -118,14 +119,14 @@ module _ (n : ℕ) (id : ℕ → ℕ) (small : (h : ℕ) → id h < n) (c : ℕ)
       i : Inv n id c S (q ∷ []) (s ++ t)
       i = take-out s (leaveRetry x q) t cl j
 
-      L : Linked S q 3
+      L : Linked S q WANTING-TO-LEAVE
       L = j .loc (leaveRetry x q) (mem-mid s (leaveRetry x q) t) .0
 
-      serve : (h : ℕ) → Serves (S .core q) (S .led h) h → Serves (free (S .core q) 2) (S .led h) h
+      serve : (h : ℕ) → Serves (S .core q) (S .led h) h → Serves (free (S .core q) INSIDE) (S .led h) h
       serve h x = (omega arith, omega arith, x .2)
 
   pub leave-grant : (q b : ℕ) → Clear (leaveGrant q b) s → Inv n id c S [] (s ++ (leaveGrant q b ∷ t))
-      → Rewritten S S′ q (turned (S .core q) 4) (S .succ q) → ((h : ℕ) → S′ .led h ≡ S .led h)
+      → Rewritten S S′ q (turned (S .core q) LEAVING) (S .succ q) → ((h : ℕ) → S′ .led h ≡ S .led h)
       → Inv n id c S′ [] ((s ++ t) ++ (leavePoint q b (S .core q .pred) ∷ []))
   leave-grant q b cl j w ls =
       calm {is = q ∷ b ∷ []} i w ls (record {
@@ -236,7 +237,7 @@ module _ (n : ℕ) (id : ℕ → ℕ) (small : (h : ℕ) → id h < n) (c : ℕ)
           tt,
         );
         fwd = λ l u. absurd (omega arith);
-        served = λ h e l u x. absurd (alone h e l u x (decLe (S .core h .state) 3));
+        served = λ h e l u x. absurd (alone h e l u x (decLe (S .core h .state) WANTING-TO-LEAVE));
         flags = inl (L .0 .flag);
         member = record { out = λ e. L .1; inside = λ l u. absurd (omega arith) };
         next = λ l e. absurd (omega arith);
@@ -260,7 +261,7 @@ module _ (n : ℕ) (id : ℕ → ℕ) (small : (h : ℕ) → id h < n) (c : ℕ)
       np e = omega (arith, L .0 .state, L .2 .high, ap (λ x. S .core x .state) e)
 
       -- nobody points to q any more
-      alone : (h : ℕ) → S .succ h ≡ q → 2 ≤ S .core h .state → S .core h .state ≤ 4 → Serves (S .core q) (S .led h) h → Dec (S .core h .state ≤ 3) → ⊥
+      alone : (h : ℕ) → S .succ h ≡ q → INSIDE ≤ S .core h .state → S .core h .state ≤ LEAVING → Serves (S .core q) (S .led h) h → Dec (S .core h .state ≤ WANTING-TO-LEAVE) → ⊥
       alone h e l u x (yes k) = go (x .2 (i .member h .inside l k))
         where
           go : (S .core q .pred ≡ h) ⊎ ((S .core q .flag ≡ 1) × (S .core q .oldpred ≡ h)) → ⊥

@@ -13,8 +13,14 @@ pub mod Deliver
 pub mod Commands
 pub mod Preserved
 pub mod Demand3
+pub mod Engines
 pub mod Run
 pub mod Theorem
+pub mod Refuted
 pub mod Record
+pub mod Small
+pub mod Demand3C
+pub mod TheoremC
 pub mod Instance
 pub mod Probes
+pub mod Probed

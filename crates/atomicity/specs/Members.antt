@@ -1,7 +1,7 @@
 -- The ledger's members as the invariant sees them, and its owner as document 01 computes it. Assumes nothing.
 use mathlib.Core.Path.{_≡_, refl, sym, _∙_, ap, subst}
-use mathlib.Core.Logic.{_⊎_, inl, inr, _≢_}
-use mathlib.Core.Bool.{Bool, true, false, not}
+use mathlib.Core.Logic.{inl, inr, _≢_}
+use mathlib.Core.Bool.{Bool, true, false}
 use mathlib.Core.List.{List, [], _∷_}
 use Prim.Native.Nat.{ℕ, _≤_, _<_}
 use native.Mathlib.Omega.{arith}
@@ -9,8 +9,8 @@ use lib.Dec.{T, eqb, eqb→eq, leb, leb→le, nleb→lt, T-not}
 use lib.ListN.{getD}
 use Rattle.clockwise.specs.Clockwise.{dist}
 use Rattle.clockwise.specs.Laws.{dist-inj}
-use Rattle.lists.specs.Choice.{if_then_else_, choose, passes}
-use Rattle.lists.specs.Members.{Mem}
+use Rattle.lists.specs.Basics.{if_then_else_, Mem}
+use Rattle.lists.specs.Choice.{choose, passes}
 use Rattle.lists.specs.Tests.{→eqb}
 use Rattle.protocol.specs.Record.{round}
 use Rattle.protocol.specs.Membership.{struckOff, takenIn, nobody, node, nearer, ownerAmong}
@@ -51,13 +51,13 @@ struck-other (k ∷ members) h x ne =
     both e = ap (λ z. if eqb k x then 1 else z) e
 
 -- taking in
-pub taken-same : (members : List ℕ) (h : ℕ) → mark (takenIn members h) h ≡ 1
+pub takenIn-same : (members : List ℕ) (h : ℕ) → mark (takenIn members h) h ≡ 1
 unfolding takenIn
-taken-same members h = mark-head (struckOff members h) h
+takenIn-same members h = mark-head (struckOff members h) h
 
-pub taken-other : (members : List ℕ) (h x : ℕ) → x ≢ h → mark (takenIn members h) x ≡ mark members x
+pub takenIn-other : (members : List ℕ) (h x : ℕ) → x ≢ h → mark (takenIn members h) x ≡ mark members x
 unfolding takenIn
-taken-other members h x ne = mark-tail (struckOff members h) h x ne ∙ struck-other members h x ne
+takenIn-other members h x ne = mark-tail (struckOff members h) h x ne ∙ struck-other members h x ne
 
 -- a marked hub is in the list
 pub marked : (members : List ℕ) (h : ℕ) → mark members h ≡ 1 → Mem h members

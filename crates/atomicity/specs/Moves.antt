@@ -6,7 +6,8 @@ use Prim.Native.Nat.{ℕ, _≤_, _<_}
 use native.Mathlib.Decide.{ℕ-discrete}
 use native.Mathlib.Omega.{arith}
 use Rattle.clockwise.specs.Laws.{In}
-use Rattle.lists.specs.Members.{Mem, mem-split, mem-mid, by-row, ind-same, ind-ne}
+use Rattle.lists.specs.Basics.{Mem}
+use Rattle.lists.specs.Members.{mem-split, mem-mid, by-row, ind-same, ind-ne}
 use Rattle.atomicity.specs.Neighbours.{PredL, enter-at, enter-before, enter-other, leave-before, leave-other}
 use Rattle.atomicity.specs.Invariant.{Hubs, between, flagged, Msg, erase, from, to, Linked, Loc, Member, Way, Inv}
 use Rattle.atomicity.specs.Invariant.{join, joinPoint}
@@ -14,12 +15,13 @@ use Rattle.atomicity.specs.Invariant.{leavePoint, updateSucc}
 use Rattle.atomicity.specs.Frame.{plain-at}
 use Rattle.atomicity.specs.OneStep.{closed-grow, no-join, Clear, take-out, change, apart-same, apart-more, locked, distinct}
 use Rattle.atomicity.specs.Calm.{Rewritten, points-row, fwd-same, Serves, busy}
+use Rattle.protocol.specs.Names.{INSIDE}
 
 module _ (n : ℕ) (id : ℕ → ℕ) (small : (h : ℕ) → id h < n) (c : ℕ) (inj : (a b : ℕ) → a < c → b < c → id a ≡ id b → a ≡ b)
     (S S′ : Hubs) (s t : List Msg) where
   -- JOIN at the owner b, which is free and in the ring
   pub join-enter : (x b a : ℕ) → Clear (join x b a) s → Inv n id c S [] (s ++ (join x b a ∷ t))
-      → S .core b .lock ≡ 0 → 2 ≤ S .core b .state → In n (id (S .core b .pred)) (id b) (id a)
+      → S .core b .lock ≡ 0 → INSIDE ≤ S .core b .state → In n (id (S .core b .pred)) (id b) (id a)
       → Rewritten S S′ b (flagged (S .core b) a) (S .succ b) → S′ .led a ≡ 1 → ((h : ℕ) → h ≢ a → S′ .led h ≡ S .led h)
       → Inv n id c S′ [] ((s ++ t) ++ (joinPoint a b (S .core b .pred) ∷ []))
   join-enter x b a cl j z lb own w la off = change {is = b ∷ a ∷ []} {r = b} i (record {
@@ -74,14 +76,11 @@ module _ (n : ℕ) (id : ℕ → ℕ) (small : (h : ℕ) → id h < n) (c : ℕ)
       L : Loc S (join x b a)
       L = j .loc (join x b a) (mem-mid s (join x b a) t)
 
-      B : Linked S b 2
+      B : Linked S b INSIDE
       B = elim (i .idle b z) [ inl e ↦ absurd (omega arith) | inr y ↦ y ]
 
       lbb : S .led b ≡ 1
       lbb = i .member b .inside (omega (arith, B .state)) (omega (arith, B .state))
-
-      lp : S .led p ≡ 1
-      lp = i .member p .inside (B .back .low) (B .back .high)
 
       nb : a ≢ b
       nb e = omega (arith, L .0, ap (λ y. S .core y .state) e)
@@ -95,7 +94,7 @@ module _ (n : ℕ) (id : ℕ → ℕ) (small : (h : ℕ) → id h < n) (c : ℕ)
       offa : S′ .core a ≡ S .core a
       offa = w .off a nb
 
-      ledup : (h : ℕ) → 2 ≤ S .core h .state → S′ .led h ≡ 1 → S .led h ≡ 1
+      ledup : (h : ℕ) → INSIDE ≤ S .core h .state → S′ .led h ≡ 1 → S .led h ≡ 1
       ledup h l e = sym (off h (λ y. omega (arith, L .0, ap (λ k. S .core k .state) y))) ∙ e
 
       serve : (h : ℕ) → Serves (S .core b) (S .led h) h → Serves (flagged (S .core b) a) (S .led h) h
@@ -117,7 +116,7 @@ module _ (n : ℕ) (id : ℕ → ℕ) (small : (h : ℕ) → id h < n) (c : ℕ)
       before : PredL n id (S′ .led) a b
       before = enter-before n id small (L .1) la off lbb pb own na npa
 
-      other : (h : ℕ) → h ≢ b → 2 ≤ S .core h .state → S′ .led h ≡ 1 → PredL n id (S′ .led) (S′ .core h .pred) h
+      other : (h : ℕ) → h ≢ b → INSIDE ≤ S .core h .state → S′ .led h ≡ 1 → PredL n id (S′ .led) (S′ .core h .pred) h
       other h ne l e =
           let lh = ledup h l e in
           rw (w .off h ne) (enter-other n id small (L .1) la off lbb pb own na npa ne lh (i .next h l lh))

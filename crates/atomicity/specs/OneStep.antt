@@ -7,24 +7,26 @@ use Prim.Native.Nat.{ℕ, _+_, _≤_, _<_}
 use native.Mathlib.Decide.{ℕ-discrete}
 use native.Mathlib.Omega.{arith}
 use lib.Dec.{T}
-use Rattle.lists.specs.Members.{Mem, mem-split, mem-left, mem-right, mem-put, All, all-mem, times, Off, off-or-in, off-of, times-in, times-off, by-row, ind, ind-cases, ind-same}
+use Rattle.lists.specs.Basics.{Mem, All, times, ind}
+use Rattle.lists.specs.Members.{mem-split, mem-left, mem-right, mem-put, all-mem, Off, off-or-in, off-of, times-in, times-off, by-row, ind-cases, ind-same}
 use Rattle.atomicity.specs.Neighbours.{PredL}
-use Rattle.atomicity.specs.Invariant.{Hubs, Msg, erase, from, to, owners, held, Loc, Idle, Fwd, Flags, Member, asks, closes, Closed, Way, Fifo, Inv, joinPoint}
+use Rattle.atomicity.specs.Invariant.{Hubs, Msg, erase, from, to, owners, carriers, Loc, Idle, Fwd, Flags, Member, asks, closes, Closed, Way, Fifo, Inv, joinPoint}
 use Rattle.atomicity.specs.Frame.{Keeps, keep-idle, frame}
+use Rattle.protocol.specs.Names.{INSIDE, JOINING, LEAVING}
 
 -- counting
 
-pub held-append : (s t : List Msg) (h : ℕ) → held (s ++ t) h ≡ held s h + held t h
-held-append [] t h = omega arith
-held-append (m ∷ s) t h = omega (arith, held-append s t h)
+pub carriers-append : (s t : List Msg) (h : ℕ) → carriers (s ++ t) h ≡ carriers s h + carriers t h
+carriers-append [] t h = omega arith
+carriers-append (m ∷ s) t h = omega (arith, carriers-append s t h)
 
-pub held-mid : (s : List Msg) (m : Msg) (t : List Msg) (h : ℕ) → held (s ++ (m ∷ t)) h ≡ times (owners m) h + held (s ++ t) h
-held-mid s m t h = omega (arith, held-append s (m ∷ t) h, held-append s t h)
+pub carriers-mid : (s : List Msg) (m : Msg) (t : List Msg) (h : ℕ) → carriers (s ++ (m ∷ t)) h ≡ times (owners m) h + carriers (s ++ t) h
+carriers-mid s m t h = omega (arith, carriers-append s (m ∷ t) h, carriers-append s t h)
 
-pub held-mem : (m : Msg) (s : List Msg) (h : ℕ) → Mem m s → times (owners m) h ≤ held s h
-held-mem m (x ∷ s) h (inl e) = omega (arith, ap (λ y. times (owners y) h) e)
-held-mem m (x ∷ s) h (inr i) = omega (arith, held-mem m s h i)
-held-mem m [] h i = absurd i
+pub carriers-mem : (m : Msg) (s : List Msg) (h : ℕ) → Mem m s → times (owners m) h ≤ carriers s h
+carriers-mem m (x ∷ s) h (inl e) = omega (arith, ap (λ y. times (owners y) h) e)
+carriers-mem m (x ∷ s) h (inr i) = omega (arith, carriers-mem m s h i)
+carriers-mem m [] h i = absurd i
 
 -- a lock that is taken is carried by some message
 pub record Carrier (ms : List Msg) (h : ℕ) : Type 0 where
@@ -32,11 +34,11 @@ pub record Carrier (ms : List Msg) (h : ℕ) : Type 0 where
   pub waits : Mem msg ms
   pub owns : Mem h (owners msg)
 
-pub carrier : (ms : List Msg) (h : ℕ) → 1 ≤ held ms h → Carrier ms h
+pub carrier : (ms : List Msg) (h : ℕ) → 1 ≤ carriers ms h → Carrier ms h
 carrier [] h l = absurd (omega arith)
 carrier (m ∷ ms) h l = go (off-or-in (owners m) h) (λ k. carrier ms h k)
   where
-    go : Off (owners m) h ⊎ Mem h (owners m) → (1 ≤ held ms h → Carrier ms h) → Carrier (m ∷ ms) h
+    go : Off (owners m) h ⊎ Mem h (owners m) → (1 ≤ carriers ms h → Carrier ms h) → Carrier (m ∷ ms) h
     go (inr i) f = record { msg = m; waits = inl refl; owns = i }
     go (inl o) f =
         let c = f (omega (arith, times-off (owners m) h o)) in
@@ -99,7 +101,7 @@ module _ {n : ℕ} {id : ℕ → ℕ} {c : ℕ} where
   pub take-out : {S : Hubs} (s : List Msg) (m : Msg) (t : List Msg) → Clear m s → Inv n id c S [] (s ++ (m ∷ t)) → Inv n id c S (owners m) (s ++ t)
   take-out {S} s m t cl i = record {
     one = i .one;
-    count = λ h. omega (arith, i .count h, held-mid s m t h);
+    count = λ h. omega (arith, i .count h, carriers-mid s m t h);
     idle = i .idle;
     loc = λ u k. i .loc u (mem-put u s m t k);
     fwd = i .fwd;
@@ -111,14 +113,14 @@ module _ {n : ℕ} {id : ℕ → ℕ} {c : ℕ} where
     below = i .below;
   }
 
-  pub apart-same : {S : Hubs} {g : List ℕ} {R : List Msg} → Inv n id c S g R → (h : ℕ) → times g h + held R h ≤ 1
+  pub apart-same : {S : Hubs} {g : List ℕ} {R : List Msg} → Inv n id c S g R → (h : ℕ) → times g h + carriers R h ≤ 1
   apart-same i h = omega (arith, i .count h, i .one h)
 
   -- with a free hub that the step locks
-  pub apart-more : {S : Hubs} {g : List ℕ} {R : List Msg} → Inv n id c S g R → (t : ℕ) → S .core t .lock ≡ 0 → (h : ℕ) → times (t ∷ g) h + held R h ≤ 1
+  pub apart-more : {S : Hubs} {g : List ℕ} {R : List Msg} → Inv n id c S g R → (t : ℕ) → S .core t .lock ≡ 0 → (h : ℕ) → times (t ∷ g) h + carriers R h ≤ 1
   apart-more {S} {g} {R} i t e h = go (ind-cases t h)
     where
-      go : ((t ≡ h) × (ind t h ≡ 1)) ⊎ ((t ≢ h) × (ind t h ≡ 0)) → times (t ∷ g) h + held R h ≤ 1
+      go : ((t ≡ h) × (ind t h ≡ 1)) ⊎ ((t ≢ h) × (ind t h ≡ 0)) → times (t ∷ g) h + carriers R h ≤ 1
       go (inl w) = omega (arith, i .count h, ap (λ x. S .core x .lock) (w .0))
       go (inr w) = omega (arith, i .count h, i .one h)
 
@@ -133,43 +135,43 @@ module _ {n : ℕ} {id : ℕ → ℕ} {c : ℕ} where
 pub record Change (n : ℕ) (id : ℕ → ℕ) (c : ℕ) (S S′ : Hubs) (g is : List ℕ) (R new : List Msg) (r : ℕ) : Type 0 where
   pub off : (h : ℕ) → h ≢ r → S′ .core h ≡ S .core h
   pub offs : (h : ℕ) → h ≢ r → S′ .succ h ≡ S .succ h
-  pub ledup : (h : ℕ) → 2 ≤ S .core h .state → S′ .led h ≡ 1 → S .led h ≡ 1
-  pub apart : (h : ℕ) → times is h + held R h ≤ 1
+  pub ledup : (h : ℕ) → INSIDE ≤ S .core h .state → S′ .led h ≡ 1 → S .led h ≡ 1
+  pub apart : (h : ℕ) → times is h + carriers R h ≤ 1
   pub lock-r : S′ .core r .lock ≤ 1
-  pub balance : (h : ℕ) → S′ .core h .lock + times g h ≡ S .core h .lock + held new h
+  pub balance : (h : ℕ) → S′ .core h .lock + times g h ≡ S .core h .lock + carriers new h
   pub keeps : Keeps S S′ is
   pub idle : All (λ h. S′ .core h .lock ≡ 0 → Idle S′ h) is
   pub fresh : All (Loc S′) new
-  pub fwd-r : 2 ≤ S′ .core r .state → S′ .core r .state ≤ 4 → Fwd S′ r
-  pub fwd-to : (h : ℕ) → h ≢ r → S .succ h ≡ r → 2 ≤ S .core h .state → S .core h .state ≤ 4 → Fwd S h → Fwd S′ h
+  pub fwd-r : INSIDE ≤ S′ .core r .state → S′ .core r .state ≤ LEAVING → Fwd S′ r
+  pub fwd-to : (h : ℕ) → h ≢ r → S .succ h ≡ r → INSIDE ≤ S .core h .state → S .core h .state ≤ LEAVING → Fwd S h → Fwd S′ h
   pub flags-r : Flags (S′ .core r)
   pub member : (h : ℕ) → Member (S′ .core h) (S′ .led h)
-  pub next : (h : ℕ) → 2 ≤ S′ .core h .state → S′ .led h ≡ 1 → PredL n id (S′ .led) (S′ .core h .pred) h
+  pub next : (h : ℕ) → INSIDE ≤ S′ .core h .state → S′ .led h ≡ 1 → PredL n id (S′ .led) (S′ .core h .pred) h
   pub entry : (a t p : ℕ) → Mem (joinPoint a t p) (R ++ new) → PredL n id (S′ .led) p a
   pub way-r : (y : ℕ) (v : List Msg) → Way S r y v → Way S′ r y (v ++ new)
   pub joins : (a t p : ℕ) → Mem (joinPoint a t p) new → t ≡ r
   pub fifo : Fifo S′ new
-  pub below-r : 1 ≤ S′ .core r .state → r < c
+  pub below-r : JOINING ≤ S′ .core r .state → r < c
 
 module _ {n : ℕ} {id : ℕ → ℕ} {c : ℕ} {S S′ : Hubs} {g is : List ℕ} {R new : List Msg} {r : ℕ} (i : Inv n id c S g R) (d : Change n id c S S′ g is R new r) where
   others : (m : Msg) → Mem m R → All (Off is) (owners m)
-  others m k = go (owners m) (λ h. held-mem m R h k)
+  others m k = go (owners m) (λ h. carriers-mem m R h k)
     where
-      go : (l : List ℕ) → ((h : ℕ) → times l h ≤ held R h) → All (Off is) l
+      go : (l : List ℕ) → ((h : ℕ) → times l h ≤ carriers R h) → All (Off is) l
       go [] f = tt
       go (x ∷ l) f = (
         off-of is x (omega (arith, d .apart x, f x, times-in (x ∷ l) x (inl refl))),
         go l (λ h. omega (arith, f h)),
       )
 
-  fwd-all : (h : ℕ) → 2 ≤ S′ .core h .state → S′ .core h .state ≤ 4 → Fwd S′ h
+  fwd-all : (h : ℕ) → INSIDE ≤ S′ .core h .state → S′ .core h .state ≤ LEAVING → Fwd S′ h
   fwd-all = by-row r (d .fwd-r) λ h ne l u.
       let e = d .off h ne in
-      let l′ : 2 ≤ S .core h .state = rw e at l in
-      let u′ : S .core h .state ≤ 4 = rw e at u in
+      let l′ : INSIDE ≤ S .core h .state = rw e at l in
+      let u′ : S .core h .state ≤ LEAVING = rw e at u in
       go h ne l′ u′ (ℕ-discrete (S .succ h) r) (i .fwd h l′ u′)
     where
-      go : (h : ℕ) → h ≢ r → 2 ≤ S .core h .state → S .core h .state ≤ 4 → Dec (S .succ h ≡ r) → Fwd S h → Fwd S′ h
+      go : (h : ℕ) → h ≢ r → INSIDE ≤ S .core h .state → S .core h .state ≤ LEAVING → Dec (S .succ h ≡ r) → Fwd S h → Fwd S′ h
       go h ne l u (yes e) f = d .fwd-to h ne e l u f
       go h ne l u (no e) f =
           let es = d .offs h ne in
@@ -200,7 +202,7 @@ module _ {n : ℕ} {id : ℕ → ℕ} {c : ℕ} {S S′ : Hubs} {g is : List ℕ
   pub change : Inv n id c S′ [] (R ++ new)
   change = record {
     one = by-row r (d .lock-r) (λ h ne. rw (d .off h ne) (i .one h));
-    count = λ h. omega (arith, d .balance h, i .count h, held-append R new h);
+    count = λ h. omega (arith, d .balance h, i .count h, carriers-append R new h);
     idle = λ h e. idle′ h e (off-or-in is h);
     loc = λ m k. loc′ m (mem-split m R new k);
     fwd = fwd-all;

@@ -2,43 +2,44 @@
 -- Assumes nothing.
 use mathlib.Core.Path.{_≡_, refl, sym, _∙_, ap, subst}
 use mathlib.Core.Logic.{_⊎_, inl, inr, _≢_}
-use mathlib.Core.Bool.{Bool, true, false, not, _&&_, _||_}
+use mathlib.Core.Bool.{Bool, not, _&&_}
 use mathlib.Core.List.{List, [], _∷_, _++_, map}
 use Prim.Native.Nat.{ℕ, zero, suc, _+_, _≤_, _<_}
-use native.Mathlib.Decide.{ℕ-discrete, decLt}
+use native.Mathlib.Decide.{ℕ-discrete}
 use native.Mathlib.Numerals.{add-one}
 use native.Mathlib.Omega.{arith}
 use lib.Dec.{T, leb, ltb, eqb, leb→le, ltb→lt, eqb→eq, nltb→le, T-not}
 use lib.ListN.{length, getD, set, take, drop, length-set, length-append, length-take, length-drop, length-map, List·getD-map}
 use lib.Seq.{map-set-same}
-use Rattle.lists.specs.Choice.{if_then_else_, choose, require, tested}
-use Rattle.lists.specs.Members.{Mem, mem-at, mem-split, All}
+use Rattle.lists.specs.Basics.{if_then_else_, require, Mem}
+use Rattle.lists.specs.Choice.{choose, tested}
+use Rattle.lists.specs.Members.{mem-at, mem-split}
 use Rattle.lists.specs.Search.{Missed, search-ends}
-use Rattle.lists.specs.Search.{Found as Located}
+use Rattle.lists.specs.Search.{Located}
 use Rattle.lists.specs.Tests.{and-left, and-right, →eqb, true-T, Distinct}
 use Rattle.protocol.specs.declared.Row.{Row}
 use Rattle.protocol.specs.declared.Message.{Message}
 use Rattle.protocol.specs.declared.Answer.{Answer}
-use Rattle.protocol.specs.declared.Answer.the-variants.{Quiet, Found}
 use Rattle.protocol.specs.declared.Route.{Route}
 use Rattle.protocol.specs.declared.Route.the-variants.{Own, To}
 use Rattle.protocol.specs.declared.Decision.{Decision}
 use Rattle.protocol.specs.declared.Decision.the-variants.{Refuse, Reply, Send}
-use Rattle.protocol.specs.Record.{mostNodes, mostMessages, none, State, count, row, identifier, message, noMessage, outside, withRow, sent, taken, ticketed}
-use Rattle.protocol.specs.WellFormed.{namesNode, identifiers}
+use Rattle.protocol.specs.Names.{INSIDE, JOINING, LEAVING, NO-OPERATION, NOT-EXPECTED, OUTSIDE, WANTING-TO-LEAVE}
+use Rattle.protocol.specs.Record.{mostNodes, mostMessages, none, State, count, row, identifier, message, noMessage, outside, withRow, sent, withoutMessage, ticketed}
+use Rattle.protocol.specs.WellFormed.{namesNode}
 use Rattle.protocol.specs.Fresh.{founder, alone, foundedBy, fresh}
 use Rattle.protocol.specs.Routing.{inRing, responsible, onward, route}
 use Rattle.protocol.specs.Kinds as kinds
-use Rattle.protocol.specs.Kinds.{question, note, grown, lookupRouted, joinRouted, admitted, handle}
+use Rattle.protocol.specs.Kinds.{note, grown, lookupRouted, joinRouted, admitted, handle}
 use Rattle.protocol.specs.Step as step
 use Rattle.protocol.specs.Step.{Result, refused, accepted, conclude, room, asking, onLink, oldest, delivered}
 use Rattle.layout.specs.Form.{RowForm, MessageForm, Form, row-at}
 use Rattle.atomicity.specs.Commands.{ring-states}
 
-pub responsible-states : (h : Row) → T (responsible h) → (2 ≤ h .state) × (h .state ≤ 3)
+pub responsible-states : (h : Row) → T (responsible h) → (INSIDE ≤ h .state) × (h .state ≤ WANTING-TO-LEAVE)
 unfolding responsible
 responsible-states h t =
-    (leb→le 2 (h .state) (and-left (leb 2 (h .state)) (ltb (h .state) 4) t), omega (arith, ltb→lt (h .state) 4 (and-right (leb 2 (h .state)) (ltb (h .state) 4) t)))
+    (leb→le INSIDE (h .state) (and-left (leb INSIDE (h .state)) (ltb (h .state) LEAVING) t), omega (arith, ltb→lt (h .state) LEAVING (and-right (leb INSIDE (h .state)) (ltb (h .state) LEAVING) t)))
 
 -- where a number goes is a hub
 abbrev Leads : ℕ → Route → Type 0
@@ -53,9 +54,9 @@ route-leads : (n p : ℕ) (h : Row) (f v : ℕ) → h .pred < n → h .succ < n 
 unfolding route
 route-leads n p h f v k l = choose (Leads n) _ _ _ (λ _. k) (λ _. onward-leads n p h v l)
 
--- A decision at a hub with row h, in a ring of n hubs with q questions asked: its row and its message are as they must be.
-abbrev Sound : ℕ → ℕ → Row → Decision → Type 0
-Sound n q h (Refuse k) = Unit {0}
+-- A decision at a hub with row h, in a ring of n hubs with q questions asked: its row and its message are as they must be. It refuses by 10 alone.
+abbrev pub Sound : ℕ → ℕ → Row → Decision → Type 0
+Sound n q h (Refuse k) = k ≡ 10
 Sound n q h (Reply v a) = RowForm n v × (v .identifier ≡ h .identifier)
 Sound n q h (Send v m a) = RowForm n v × (v .identifier ≡ h .identifier) × MessageForm n q m
 
@@ -77,34 +78,34 @@ module _ (n q : ℕ) (h : Row) (r : RowForm n h) (m : Message) (ok : MessageForm
   abbrev Well : Decision → Type 0
   Well d = Sound n q h d
 
-  if-else : (b : Bool) (d : Decision) → (T b → Well d) → Well (if b then d else Refuse 10)
-  if-else b d f = choose Well b d (Refuse 10) f (λ _. tt)
+  if-else : (b : Bool) (d : Decision) → (T b → Well d) → Well (if b then d else Refuse NOT-EXPECTED)
+  if-else b d f = choose Well b d (Refuse NOT-EXPECTED) f (λ _. refl)
 
   -- the flag is down in every state but 2
-  down : h .state ≢ 2 → (h .flag ≡ 0) × (h .oldpred ≡ none)
+  down : h .state ≢ INSIDE → (h .flag ≡ 0) × (h .oldpred ≡ none)
   down ne = elim (r .flag) [ inl k ↦ k | inr k ↦ absurd (ne (k .1)) ]
 
   -- succ alone is changed, at a hub in the ring
-  turn : (s : ℕ) → s < n → 2 ≤ h .state → RowForm n (kinds.withSucc h s)
+  turn : (s : ℕ) → s < n → INSIDE ≤ h .state → RowForm n (kinds.withSucc h s)
   turn s l k = record {
     state = r .state;
     lock = r .lock;
     unlinked = λ u. absurd (omega arith);
     linked = λ _. (r .linked k .0, l);
     out = r .out;
-    taken = r .taken;
+    locked = r .locked;
     flag = r .flag;
   }
 
   -- the lock is freed in state 2
-  loose : h .state ≡ 2 → h .flag ≡ 0 → RowForm n (kinds.withLock h 0)
+  loose : h .state ≡ INSIDE → h .flag ≡ 0 → RowForm n (kinds.withLock h 0)
   loose e f = record {
     state = r .state;
     lock = omega arith;
     unlinked = r .unlinked;
     linked = r .linked;
     out = λ _. refl;
-    taken = λ _ ne. absurd (ne e);
+    locked = λ _ ne. absurd (ne e);
     flag = elim (r .flag) [ inl k ↦ inl k | inr k ↦ absurd (omega arith) ];
   }
 
@@ -141,15 +142,15 @@ module _ (n q : ℕ) (h : Row) (r : RowForm n h) (m : Message) (ok : MessageForm
   unfolding namesNode
   retried-sound la = (r, refl, note-form 3 (m .to) (m .a) 0 (omega arith) (omega arith) (ok .to) la (λ t. absurd t) (λ _. refl))
 
-  join-routed-sound : m .a < n → 2 ≤ h .state → (z : Route) → Leads n z → Well (joinRouted h m z)
+  join-routed-sound : m .a < n → INSIDE ≤ h .state → (z : Route) → Leads n z → Well (joinRouted h m z)
   unfolding joinRouted namesNode
   join-routed-sound la k Own l =
       choose Well (eqb (h .lock) 1) _ _ (λ _. retried-sound la)
       (λ t. (enters t, refl, note-form 4 (m .to) (m .a) (h .pred) (omega arith) (omega arith) (ok .to) la (λ _. (r .linked k .0)) (λ f. absurd (f tt))))
     where
-      two : T (not (eqb (h .lock) 1)) → Dec (h .state ≡ 2) → h .state ≡ 2
+      two : T (not (eqb (h .lock) 1)) → Dec (h .state ≡ INSIDE) → h .state ≡ INSIDE
       two t (yes e) = e
-      two t (no e) = absurd (T-not (eqb (h .lock) 1) t (→eqb _ 1 (r .taken (λ x. omega arith) e)))
+      two t (no e) = absurd (T-not (eqb (h .lock) 1) t (→eqb _ 1 (r .locked (λ x. omega arith) e)))
 
       enters : T (not (eqb (h .lock) 1)) → RowForm n (admitted h (m .a))
       enters t = record {
@@ -158,29 +159,29 @@ module _ (n q : ℕ) (h : Row) (r : RowForm n h) (m : Message) (ok : MessageForm
         unlinked = λ u. absurd (omega arith);
         linked = λ _. (la, r .linked k .1);
         out = λ e. absurd (omega arith);
-        taken = λ _ _. refl;
-        flag = inr (refl, two t (ℕ-discrete (h .state) 2), refl, r .linked k .0);
+        locked = λ _ _. refl;
+        flag = inr (refl, two t (ℕ-discrete (h .state) INSIDE), refl, r .linked k .0);
       }
   join-routed-sound la k (To z) l = (r, refl, note-form 2 (m .to) z (m .a) (omega arith) (omega arith) (ok .to) l (λ _. la) (λ f. absurd (f tt)))
 
   join-sound : (p : ℕ) (g : Row) → m .a < n → Well (kinds.join p h g m)
   unfolding kinds.join
   join-sound p g la =
-      if-else (eqb (g .state) 1) _ (λ _. choose Well (ltb (h .state) 2) _ _ (λ _. retried-sound la)
-      (λ t. let k : 2 ≤ h .state = nltb→le (h .state) 2 t in let b = r .linked k in
+      if-else (eqb (g .state) JOINING) _ (λ _. choose Well (ltb (h .state) INSIDE) _ _ (λ _. retried-sound la)
+      (λ t. let k : INSIDE ≤ h .state = nltb→le (h .state) INSIDE t in let b = r .linked k in
       join-routed-sound la k (route p h (m .from) (g .identifier)) (route-leads n p h (m .from) (g .identifier) (b .0) (b .1))))
 
   join-retry-sound : Well (kinds.joinRetry h m)
   unfolding kinds.joinRetry
-  join-retry-sound = if-else (eqb (h .state) 1) _ λ t.
-      let e : h .state ≡ 1 = eqb→eq _ 1 t in (
+  join-retry-sound = if-else (eqb (h .state) JOINING) _ λ t.
+      let e : h .state ≡ JOINING = eqb→eq _ JOINING t in (
         record {
           state = omega arith;
           lock = omega arith;
           unlinked = λ _. r .unlinked (omega arith);
           linked = λ l. absurd (omega arith);
           out = λ _. refl;
-          taken = λ ne. absurd (ne refl);
+          locked = λ ne. absurd (ne refl);
           flag = inl (down (λ x. omega arith));
         },
         refl,
@@ -188,15 +189,15 @@ module _ (n q : ℕ) (h : Row) (r : RowForm n h) (m : Message) (ok : MessageForm
 
   join-point-sound : m .a < n → Well (kinds.joinPoint h m)
   unfolding kinds.joinPoint namesNode
-  join-point-sound la = if-else (eqb (h .state) 1) _ λ t.
-      let e : h .state ≡ 1 = eqb→eq _ 1 t in (
+  join-point-sound la = if-else (eqb (h .state) JOINING) _ λ t.
+      let e : h .state ≡ JOINING = eqb→eq _ JOINING t in (
         record {
           state = omega arith;
           lock = r .lock;
           unlinked = λ l. absurd (omega arith);
           linked = λ _. (la, ok .from);
           out = λ x. absurd (omega arith);
-          taken = λ _ ne. absurd (ne refl);
+          locked = λ _ ne. absurd (ne refl);
           flag = inl (down (λ x. omega arith));
         },
         refl,
@@ -219,7 +220,7 @@ module _ (n q : ℕ) (h : Row) (r : RowForm n h) (m : Message) (ok : MessageForm
           unlinked = r .unlinked;
           linked = r .linked;
           out = λ _. refl;
-          taken = λ _ ne. absurd (elim (r .flag) [ inl x ↦ omega arith | inr x ↦ ne (x .1) ]);
+          locked = λ _ ne. absurd (elim (r .flag) [ inl x ↦ omega arith | inr x ↦ ne (x .1) ]);
           flag = inl (refl, refl);
         },
         refl,
@@ -227,10 +228,10 @@ module _ (n q : ℕ) (h : Row) (r : RowForm n h) (m : Message) (ok : MessageForm
       )
 
   -- state 2, lock 1, flag 0: the lock is freed
-  freed : (a : Answer) → Well (if eqb (h .state) 2 && eqb (h .lock) 1 && eqb (h .flag) 0 then Reply (kinds.withLock h 0) a else Refuse 10)
-  freed a = if-else (eqb (h .state) 2 && eqb (h .lock) 1 && eqb (h .flag) 0) _ λ t.
-      let st : h .state ≡ 2 = eqb→eq _ 2 (and-left (eqb (h .state) 2) (eqb (h .lock) 1) (and-left (eqb (h .state) 2 && eqb (h .lock) 1) (eqb (h .flag) 0) t)) in
-      let fl : h .flag ≡ 0 = eqb→eq _ 0 (and-right (eqb (h .state) 2 && eqb (h .lock) 1) (eqb (h .flag) 0) t) in
+  freed : (a : Answer) → Well (if eqb (h .state) INSIDE && eqb (h .lock) 1 && eqb (h .flag) 0 then Reply (kinds.withLock h 0) a else Refuse NOT-EXPECTED)
+  freed a = if-else (eqb (h .state) INSIDE && eqb (h .lock) 1 && eqb (h .flag) 0) _ λ t.
+      let st : h .state ≡ INSIDE = eqb→eq _ INSIDE (and-left (eqb (h .state) INSIDE) (eqb (h .lock) 1) (and-left (eqb (h .state) INSIDE && eqb (h .lock) 1) (eqb (h .flag) 0) t)) in
+      let fl : h .flag ≡ 0 = eqb→eq _ 0 (and-right (eqb (h .state) INSIDE && eqb (h .lock) 1) (eqb (h .flag) 0) t) in
       (loose st fl, refl)
 
   leave-req-sound : Well (kinds.leaveReq h m)
@@ -246,7 +247,7 @@ module _ (n q : ℕ) (h : Row) (r : RowForm n h) (m : Message) (ok : MessageForm
           unlinked = r .unlinked;
           linked = r .linked;
           out = λ e. absurd (omega arith);
-          taken = λ _ _. refl;
+          locked = λ _ _. refl;
           flag = elim (r .flag) [ inl k ↦ inl k | inr k ↦ inr (k .0, k .1, refl, k .3) ];
         },
         refl,
@@ -255,15 +256,15 @@ module _ (n q : ℕ) (h : Row) (r : RowForm n h) (m : Message) (ok : MessageForm
 
   leave-retry-sound : Well (kinds.leaveRetry h m)
   unfolding kinds.leaveRetry
-  leave-retry-sound = if-else (eqb (h .state) 3) _ λ t.
-      let e : h .state ≡ 3 = eqb→eq _ 3 t in (
+  leave-retry-sound = if-else (eqb (h .state) WANTING-TO-LEAVE) _ λ t.
+      let e : h .state ≡ WANTING-TO-LEAVE = eqb→eq _ WANTING-TO-LEAVE t in (
         record {
           state = omega arith;
           lock = omega arith;
           unlinked = λ l. absurd (omega arith);
           linked = λ _. r .linked (omega arith);
           out = λ _. refl;
-          taken = λ _ ne. absurd (ne refl);
+          locked = λ _ ne. absurd (ne refl);
           flag = inl (down (λ x. omega arith));
         },
         refl,
@@ -271,8 +272,8 @@ module _ (n q : ℕ) (h : Row) (r : RowForm n h) (m : Message) (ok : MessageForm
 
   leave-grant-sound : Well (kinds.leaveGrant h m)
   unfolding kinds.leaveGrant namesNode
-  leave-grant-sound = if-else (eqb (h .state) 3) _ λ t.
-      let e : h .state ≡ 3 = eqb→eq _ 3 t in
+  leave-grant-sound = if-else (eqb (h .state) WANTING-TO-LEAVE) _ λ t.
+      let e : h .state ≡ WANTING-TO-LEAVE = eqb→eq _ WANTING-TO-LEAVE t in
       let b = r .linked (omega arith) in (
         record {
           state = omega arith;
@@ -280,7 +281,7 @@ module _ (n q : ℕ) (h : Row) (r : RowForm n h) (m : Message) (ok : MessageForm
           unlinked = λ l. absurd (omega arith);
           linked = λ _. b;
           out = λ x. absurd (omega arith);
-          taken = λ _ _. r .taken (λ x. omega arith) (λ x. omega arith);
+          locked = λ _ _. r .locked (λ x. omega arith) (λ x. omega arith);
           flag = inl (down (λ x. omega arith));
         },
         refl,
@@ -289,15 +290,15 @@ module _ (n q : ℕ) (h : Row) (r : RowForm n h) (m : Message) (ok : MessageForm
 
   leave-point-sound : m .a < n → Well (kinds.leavePoint h m)
   unfolding kinds.leavePoint namesNode
-  leave-point-sound la = if-else (eqb (h .state) 2 && eqb (h .lock) 1) _ λ t.
-      let e : h .state ≡ 2 = eqb→eq _ 2 (and-left (eqb (h .state) 2) (eqb (h .lock) 1) t) in (
+  leave-point-sound la = if-else (eqb (h .state) INSIDE && eqb (h .lock) 1) _ λ t.
+      let e : h .state ≡ INSIDE = eqb→eq _ INSIDE (and-left (eqb (h .state) INSIDE) (eqb (h .lock) 1) t) in (
         record {
           state = r .state;
           lock = r .lock;
           unlinked = λ l. absurd (omega arith);
           linked = λ _. (la, r .linked (omega arith) .1);
           out = r .out;
-          taken = r .taken;
+          locked = r .locked;
           flag = r .flag;
         },
         refl,
@@ -312,15 +313,15 @@ module _ (n q : ℕ) (h : Row) (r : RowForm n h) (m : Message) (ok : MessageForm
 
   stop-forward-sound : Well (kinds.stopForward h m)
   unfolding kinds.stopForward namesNode
-  stop-forward-sound = if-else (eqb (h .state) 4) _ λ t.
-      let e : h .state ≡ 4 = eqb→eq _ 4 t in (
+  stop-forward-sound = if-else (eqb (h .state) LEAVING) _ λ t.
+      let e : h .state ≡ LEAVING = eqb→eq _ LEAVING t in (
         record {
           state = omega arith;
           lock = omega arith;
           unlinked = λ _. (refl, refl);
           linked = λ l. absurd (omega arith);
           out = λ _. refl;
-          taken = λ ne. absurd (ne refl);
+          locked = λ ne. absurd (ne refl);
           flag = inl (down (λ x. omega arith) .0, refl);
         },
         refl,
@@ -339,7 +340,7 @@ module _ (n q : ℕ) (h : Row) (r : RowForm n h) (m : Message) (ok : MessageForm
       (by 4 _ _ (λ e. join-point-sound (names-hub 4 tt (omega arith) e)) (by 5 _ _ (λ e. new-succ-sound)
       (by 6 _ _ (λ e. new-succ-ack-sound (names-hub 6 tt (omega arith) e)) (by 7 _ _ (λ e. freed _) (by 8 _ _ (λ e. leave-req-sound)
       (by 9 _ _ (λ e. leave-retry-sound) (by 10 _ _ (λ e. leave-grant-sound) (by 11 _ _ (λ e. leave-point-sound (names-hub 11 tt (omega arith) e))
-      (by 12 _ _ (λ e. update-succ-sound) (by 13 _ _ (λ e. stop-forward-sound) (by 14 _ _ (λ e. freed _) tt)))))))))))))
+      (by 12 _ _ (λ e. update-succ-sound) (by 13 _ _ (λ e. stop-forward-sound) (by 14 _ _ (λ e. freed _) refl)))))))))))))
     where
       by : (k : ℕ) (x y : Decision) → (m .kind ≡ k → Well x) → Well y → Well (if eqb (m .kind) k then x else y)
       by k x y f g = choose Well (eqb (m .kind) k) x y (λ t. f (eqb→eq (m .kind) k t)) (λ _. g)
@@ -422,15 +423,15 @@ link-to s x y l = go (search-ends (onLink s x y) (length (s .messages)))
 
 -- message j is taken out
 module _ (s : State) (f : Form s) (j : ℕ) (l : j < length (s .messages)) where
-  taken-short : length (taken s j .messages) < mostMessages
-  taken-short =
+  without-short : length (withoutMessage s j .messages) < mostMessages
+  without-short =
       omega (arith, length-append (take j (s .messages)) (drop (j + 1) (s .messages)), length-take j (s .messages), length-drop (j + 1) (s .messages), f .short)
 
-  taken-form : Form (taken s j)
-  taken-form = record {
+  without-form : Form (withoutMessage s j)
+  without-form = record {
     some = f .some;
     few = f .few;
-    short = omega (arith, taken-short);
+    short = omega (arith, without-short);
     differ = f .differ;
     rows = f .rows;
     messages = λ m k. f .messages m (mem-part (s .messages) j m (rw add-one at k));
@@ -440,7 +441,7 @@ module _ (s : State) (f : Form s) (j : ℕ) (l : j < length (s .messages)) where
   unfolding delivered
   delivered-form t e =
       let ok = f .messages (message s j) (mem-at (s .messages) j noMessage l) in
-      conclude-form (taken s j) t _ taken-form taken-short
+      conclude-form (withoutMessage s j) t _ without-form without-short
       (handle-sound (count s) (s .asked) (row s t) (row-at f t (rw e at (ok .to))) (message s j) ok (identifier s (row s t .pred)) (row s (message s j .a)))
 
 module _ (s : State) (f : Form s) where
@@ -456,7 +457,7 @@ module _ (s : State) (f : Form s) where
   join-form x y = ask-yes _ _ _ λ t4. ask-yes _ _ _ λ t6. ask-yes _ _ _ λ t5. ask-yes _ _ _ λ t11.
       let lx : x < count s = ltb→lt x (count s) (and-left (ltb x (count s)) (ltb y (count s)) t4) in
       let ly : y < count s = ltb→lt y (count s) (and-right (ltb x (count s)) (ltb y (count s)) t4) in
-      let e : row s x .state ≡ 0 = eqb→eq _ 0 t6 in
+      let e : row s x .state ≡ OUTSIDE = eqb→eq _ OUTSIDE t6 in
       let r = row-at f x lx in
       conclude-form s x _ f (roomy t11) (
         record {
@@ -465,7 +466,7 @@ module _ (s : State) (f : Form s) where
           unlinked = λ _. r .unlinked (omega arith);
           linked = λ l. absurd (omega arith);
           out = λ z. absurd (omega arith);
-          taken = λ _ _. refl;
+          locked = λ _ _. refl;
           flag = elim (r .flag) [ inl k ↦ inl k | inr k ↦ absurd (omega arith) ];
         },
         refl,
@@ -487,7 +488,7 @@ module _ (s : State) (f : Form s) where
           unlinked = λ l. absurd (omega arith);
           linked = λ _. b;
           out = λ e. absurd (omega arith);
-          taken = λ _ _. refl;
+          locked = λ _ _. refl;
           flag = elim (r .flag) [ inl k ↦ inl k | inr k ↦ absurd (omega (arith, k .2)) ];
         },
         refl,
@@ -543,7 +544,7 @@ module _ (s : State) (f : Form s) where
   unfolding step.step
   step-form operation x y =
       choose Leaves _ _ _ (λ _. ask-form x y) (λ _. choose Leaves _ _ _ (λ _. join-form x y) (λ _. choose Leaves _ _ _ (λ _. leave-form x)
-      (λ _. choose Leaves _ _ _ (λ _. deliver-form x y) (λ _. leaves-refused 3))))
+      (λ _. choose Leaves _ _ _ (λ _. deliver-form x y) (λ _. leaves-refused NO-OPERATION))))
 
 -- A fresh ring is well formed.
 module _ (ids : List ℕ) where
@@ -558,7 +559,7 @@ module _ (ids : List ℕ) where
     unlinked = λ _. (refl, refl);
     linked = λ l. absurd (omega arith);
     out = λ _. refl;
-    taken = λ ne. absurd (ne refl);
+    locked = λ ne. absurd (ne refl);
     flag = inl (refl, refl);
   })
   outside-row n (i ∷ l) h (inr k) = outside-row n l h k
@@ -571,7 +572,7 @@ module _ (ids : List ℕ) where
     unlinked = λ u. absurd (omega arith);
     linked = λ _. (l, l);
     out = λ e. absurd (omega arith);
-    taken = λ _ ne. absurd (ne refl);
+    locked = λ _ ne. absurd (ne refl);
     flag = inl (refl, refl);
   }
 

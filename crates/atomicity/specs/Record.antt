@@ -1,25 +1,26 @@
 -- Laws of a record under calls, for EVERY record and command: an accepted step, and an accepted fresh, leave it well formed; words past
 -- the record are kept; on well-formed records words and state are inverse. Assumes nothing.
-use mathlib.Core.Path.{_≡_, refl, sym, _∙_, ap, subst}
-use mathlib.Core.Bool.{Bool, true, false, _&&_}
+use mathlib.Core.Path.{_≡_, refl, _∙_, subst}
+use mathlib.Core.Bool.{true, _&&_}
 use mathlib.Core.List.{List, _++_}
-use Prim.Native.Nat.{ℕ, _≤_, _<_}
+use Prim.Native.Nat.{ℕ, _≤_}
 use native.Mathlib.Omega.{arith}
 use lib.Dec.{T, leb, leb→le, le→leb}
 use lib.ListN.{length, drop, length-append, length-drop}
-use Rattle.lists.specs.Choice.{require, tested, granted}
-use Rattle.lists.specs.Tests.{and-left, and-right, and-both, T-true, true-T, distinct, says-distinct}
+use Rattle.lists.specs.Basics.{distinct}
+use Rattle.lists.specs.Choice.{tested, granted}
+use Rattle.lists.specs.Tests.{and-left, and-right, and-both, T-true, true-T, says-distinct}
 use Rattle.protocol.specs.declared.Answer.{Answer}
 use Rattle.protocol.specs.declared.Answer.the-variants.{Quiet}
 use Rattle.protocol.specs.declared.Outcome.{Outcome}
 use Rattle.protocol.specs.declared.Outcome.the-variants.{Refused, Answered}
-use Rattle.protocol.specs.Record.{mostNodes, recordSize, State, read, words}
+use Rattle.protocol.specs.Record.{mostNodes, recordSize, read, words}
 use Rattle.protocol.specs.WellFormed.{wellFormed}
 use Rattle.protocol.specs.Fresh.{fresh}
 use Rattle.protocol.specs.Step.{Result, refused, accepted, step}
 use Rattle.protocol.specs.Calls.{Called, long, onRecord, written, turnedDown, stepCall, freshCall}
 use Rattle.layout.specs.Words.{words-read, drop-words, length-words}
-use Rattle.layout.specs.Form.{Form, tidy, form-of, well-formed-words}
+use Rattle.layout.specs.Form.{tidy, form-of, well-formed-words}
 use Rattle.atomicity.specs.Preserved.{Leaves, leaves-form, leaves-accepted, step-form, fresh-form}
 
 -- What a call may do to the words: keep them all, or leave a well-formed record with the later words as they were.

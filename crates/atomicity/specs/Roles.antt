@@ -6,21 +6,23 @@ use Prim.Native.Nat.{ℕ, _≤_}
 use native.Mathlib.Decide.{decLe}
 use native.Mathlib.Omega.{arith}
 use lib.Dec.{T}
-use Rattle.lists.specs.Members.{Mem, mem-split, mem-right, All, all-mem, times-in}
-use Rattle.atomicity.specs.Invariant.{Hubs, Msg, from, to, owners, held, Plain, Flagged, Linked, Loc, Idle, Flags, asks, closes, Closed, Open, Back, Inv}
+use Rattle.lists.specs.Basics.{Mem, All}
+use Rattle.lists.specs.Members.{mem-split, mem-right, all-mem, times-in}
+use Rattle.atomicity.specs.Invariant.{Hubs, Msg, from, to, owners, carriers, Plain, Flagged, Linked, Loc, Idle, Flags, asks, closes, Closed, Open, Back, Inv}
 use Rattle.atomicity.specs.Invariant.{lookup, join, joinRetry, joinPoint, newSucc, newSuccAck, joinDone}
 use Rattle.atomicity.specs.Invariant.{leaveReq, leaveRetry, leaveGrant, leavePoint, updateSucc, stopForward, leaveDone}
-use Rattle.atomicity.specs.OneStep.{held-mem, carrier, Clear, fifo-mid}
+use Rattle.atomicity.specs.OneStep.{carriers-mem, carrier, Clear, fifo-mid}
+use Rattle.protocol.specs.Names.{INSIDE, JOINING, LEAVING, OUTSIDE, WANTING-TO-LEAVE}
 
 pub record Role (S : Hubs) (m : Msg) (h : ℕ) : Type 0 where
-  pub some : 1 ≤ S .core h .state
-  pub most : S .core h .state ≤ 4
-  pub four : S .core h .state ≡ 4 → S .core (S .succ h) .state ≡ 2
-  pub flag : S .core h .flag ≡ 1 → (S .core (S .core h .pred) .state ≡ 2) ⊎ ((p : ℕ) × (m ≡ joinPoint (S .core h .pred) h p))
+  pub some : JOINING ≤ S .core h .state
+  pub most : S .core h .state ≤ LEAVING
+  pub four : S .core h .state ≡ LEAVING → S .core (S .succ h) .state ≡ INSIDE
+  pub flag : S .core h .flag ≡ 1 → (S .core (S .core h .pred) .state ≡ INSIDE) ⊎ ((p : ℕ) × (m ≡ joinPoint (S .core h .pred) h p))
 
 module _ (S : Hubs) (fl : (h : ℕ) → Flags (S .core h)) where
   -- states 1 and 3, and 2 with the flag down
-  low : {m : Msg} (h : ℕ) → 1 ≤ S .core h .state → S .core h .state ≤ 3 → (S .core h .state ≡ 2 → S .core h .flag ≡ 0) → Role S m h
+  low : {m : Msg} (h : ℕ) → JOINING ≤ S .core h .state → S .core h .state ≤ WANTING-TO-LEAVE → (S .core h .state ≡ INSIDE → S .core h .flag ≡ 0) → Role S m h
   low h l u f = record {
     some = l;
     most = omega arith;
@@ -34,13 +36,13 @@ module _ (S : Hubs) (fl : (h : ℕ) → Flags (S .core h)) where
   linked : {m : Msg} {h c : ℕ} → Linked S h c → 1 ≤ c → c ≤ 3 → Role S m h
   linked {h = h} x l u = low h (omega (arith, x .state)) (omega (arith, x .state)) (λ e. x .flag)
 
-  joining : {m : Msg} {h : ℕ} → S .core h .state ≡ 1 → Role S m h
+  joining : {m : Msg} {h : ℕ} → S .core h .state ≡ JOINING → Role S m h
   joining {h = h} x = low h (omega arith) (omega arith) (λ e. absurd (omega arith))
 
-  leaving : {m : Msg} {q t p z : ℕ} → Plain S q 4 p → S .succ q ≡ t → Plain S t 2 z → Role S m q
+  leaving : {m : Msg} {q t p z : ℕ} → Plain S q LEAVING p → S .succ q ≡ t → Plain S t INSIDE z → Role S m q
   leaving x e y = record { some = omega (arith, x .state); most = omega (arith, x .state); four = λ _. rw e (y .state); flag = λ f. absurd (omega (arith, x .flag)) }
 
-  served : {m : Msg} {a t p : ℕ} → Flagged S t a p → (S .core a .state ≡ 2) ⊎ ((p : ℕ) × (m ≡ joinPoint a t p)) → Role S m t
+  served : {m : Msg} {a t p : ℕ} → Flagged S t a p → (S .core a .state ≡ INSIDE) ⊎ ((p : ℕ) × (m ≡ joinPoint a t p)) → Role S m t
   served x k = record { some = omega (arith, x .state); most = omega (arith, x .state); four = λ e. absurd (omega (arith, x .state)); flag = λ f. rw (x .pred) k }
 
   roles : (m : Msg) → Loc S m → All (Role S m) (owners m)
@@ -65,8 +67,8 @@ pub record Held (S : Hubs) (ms : List Msg) (h : ℕ) : Type 0 where
   pub role : Role S msg h
 
 module _ {n : ℕ} {id : ℕ → ℕ} {c : ℕ} {S : Hubs} {g : List ℕ} {R : List Msg} (i : Inv n id c S g R) where
-  pub held-by : (h : ℕ) → 1 ≤ held R h → Held S R h
-  held-by h l =
+  pub carriers-by : (h : ℕ) → 1 ≤ carriers R h → Held S R h
+  carriers-by h l =
       let k = carrier R h l in
       record { msg = k .msg; waits = k .waits; role = all-mem (Role S (k .msg)) (owners (k .msg)) (roles S (i .flags) (k .msg) (i .loc (k .msg) (k .waits))) h (k .owns) }
 
@@ -75,28 +77,28 @@ pub carried : {n : ℕ} {id : ℕ → ℕ} {c : ℕ} {S : Hubs} {ms : List Msg} 
 carried {S = S} {ms = ms} i h f = go (decLe 1 (S .core h .lock))
   where
     go : Dec (1 ≤ S .core h .lock) → Held S ms h
-    go (yes l) = held-by i h (omega (arith, i .count h))
+    go (yes l) = carriers-by i h (omega (arith, i .count h))
     go (no l) = absurd (f (i .idle h (omega arith)))
 
 module _ {n : ℕ} {id : ℕ → ℕ} {c : ℕ} {S : Hubs} {ms : List Msg} (i : Inv n id c S [] ms) where
   -- there is no state above 4
-  pub state-le : (h : ℕ) → S .core h .state ≤ 4
-  state-le h = go (decLe (S .core h .state) 4)
+  pub state-le : (h : ℕ) → S .core h .state ≤ LEAVING
+  state-le h = go (decLe (S .core h .state) LEAVING)
     where
-      go : Dec (S .core h .state ≤ 4) → S .core h .state ≤ 4
+      go : Dec (S .core h .state ≤ LEAVING) → S .core h .state ≤ LEAVING
       go (yes l) = l
       go (no l) = carried i h (λ z. elim z [ inl e ↦ omega arith | inr e ↦ omega (arith, e .state) ]) .role .most
 
   -- an outside hub is free
-  pub outside-free : (h : ℕ) → S .core h .state ≡ 0 → S .core h .lock ≡ 0
+  pub outside-free : (h : ℕ) → S .core h .state ≡ OUTSIDE → S .core h .lock ≡ 0
   outside-free h e = go (decLe 1 (S .core h .lock))
     where
       go : Dec (1 ≤ S .core h .lock) → S .core h .lock ≡ 0
       go (no l) = omega arith
-      go (yes l) = absurd (omega (arith, held-by i h (omega (arith, i .count h)) .role .some))
+      go (yes l) = absurd (omega (arith, carriers-by i h (omega (arith, i .count h)) .role .some))
 
   -- the newcomer before a flagged hub is on its way in, or in
-  pub newcomer : (h : ℕ) → S .core h .flag ≡ 1 → 1 ≤ S .core (S .core h .pred) .state
+  pub newcomer : (h : ℕ) → S .core h .flag ≡ 1 → JOINING ≤ S .core (S .core h .pred) .state
   newcomer h f = go (k .role .flag f)
     where
       idle : Idle S h → ⊥
@@ -106,7 +108,7 @@ module _ {n : ℕ} {id : ℕ → ℕ} {c : ℕ} {S : Hubs} {ms : List Msg} (i : 
       k : Held S ms h
       k = carried i h idle
 
-      go : (S .core (S .core h .pred) .state ≡ 2) ⊎ ((p : ℕ) × (k .msg ≡ joinPoint (S .core h .pred) h p)) → 1 ≤ S .core (S .core h .pred) .state
+      go : (S .core (S .core h .pred) .state ≡ INSIDE) ⊎ ((p : ℕ) × (k .msg ≡ joinPoint (S .core h .pred) h p)) → JOINING ≤ S .core (S .core h .pred) .state
       go (inl e) = omega arith
       go (inr e) =
           let l = i .loc (joinPoint (S .core h .pred) h (e .0)) (subst (λ m. Mem m ms) (e .1) (k .waits)) in
@@ -114,8 +116,8 @@ module _ {n : ℕ} {id : ℕ → ℕ} {c : ℕ} {S : Hubs} {ms : List Msg} (i : 
 
 -- the message that closes a link has locked its receiver, which is in the ring
 pub record Shut (S : Hubs) (m : Msg) : Type 0 where
-  pub low : 2 ≤ S .core (to m) .state
-  pub high : S .core (to m) .state ≤ 4
+  pub low : INSIDE ≤ S .core (to m) .state
+  pub high : S .core (to m) .state ≤ LEAVING
   pub owned : Mem (to m) (owners m)
 
 pub shut : {S : Hubs} (m : Msg) → Loc S m → T (closes m) → Shut S m
@@ -136,7 +138,7 @@ shut (updateSucc q t p) l k = absurd k
 
 -- A question, or a request to leave, finds its receiver in the ring.
 module _ {n : ℕ} {id : ℕ → ℕ} {c : ℕ} {S : Hubs} (s : List Msg) (m : Msg) (t : List Msg) (j : Inv n id c S [] (s ++ (m ∷ t))) (cl : Clear m s) (a : T (asks m)) where
-  back-in : Back S (from m) (to m) t → S .core (to m) .state ≡ 2
+  back-in : Back S (from m) (to m) t → S .core (to m) .state ≡ INSIDE
   back-in b = rw (b .pred) at (go (k .role .flag (b .flag)))
     where
       idle : Idle S (from m) → ⊥
@@ -154,17 +156,17 @@ module _ {n : ℕ} {id : ℕ → ℕ} {c : ℕ} {S : Hubs} (s : List Msg) (m : M
       none p e (inr (inl x)) = subst (λ u. T (asks u)) (sym x ∙ e) a
       none p e (inr (inr x)) = b .entered p (subst (λ u. Mem u t) (e ∙ ap (λ y. joinPoint y (from m) p) (b .pred)) x)
 
-      go : (S .core h .state ≡ 2) ⊎ ((p : ℕ) × (k .msg ≡ joinPoint h (from m) p)) → S .core h .state ≡ 2
+      go : (S .core h .state ≡ INSIDE) ⊎ ((p : ℕ) × (k .msg ≡ joinPoint h (from m) p)) → S .core h .state ≡ INSIDE
       go (inl e) = e
       go (inr e) = absurd (none (e .0) (e .1) (mem-split (k .msg) s (m ∷ t) (k .waits)))
 
   closed-in : (k : Closed (from m) (to m) t) → Shut S (k .last)
   closed-in k = shut (k .last) (j .loc (k .last) (mem-right (k .last) s (m ∷ t) (inr (k .waits)))) (k .is)
 
-  pub reach : (2 ≤ S .core (to m) .state) × (S .core (to m) .state ≤ 4)
+  pub reach : (INSIDE ≤ S .core (to m) .state) × (S .core (to m) .state ≤ LEAVING)
   reach = go (fifo-mid S s m t (j .fifo) a)
     where
-      go : Closed (from m) (to m) t ⊎ (Open S (from m) (to m) ⊎ Back S (from m) (to m) t) → (2 ≤ S .core (to m) .state) × (S .core (to m) .state ≤ 4)
+      go : Closed (from m) (to m) t ⊎ (Open S (from m) (to m) ⊎ Back S (from m) (to m) t) → (INSIDE ≤ S .core (to m) .state) × (S .core (to m) .state ≤ LEAVING)
       go (inl k) = let x = closed-in k in (rw (k .dst) at (x .low), rw (k .dst) at (x .high))
       go (inr (inl k)) = let f = j .fwd (from m) (k .low) (k .high) in (rw (k .at) at (f .low), rw (k .at) at (f .high))
       go (inr (inr k)) = let e = back-in k in omega arith
@@ -180,6 +182,6 @@ module _ {n : ℕ} {id : ℕ → ℕ} {c : ℕ} {S : Hubs} (s : List Msg) (m : M
           (omega (
             arith,
             j .count (to m),
-            held-mem (k .last) (s ++ (m ∷ t)) (to m) (mem-right (k .last) s (m ∷ t) (inr (k .waits))),
+            carriers-mem (k .last) (s ++ (m ∷ t)) (to m) (mem-right (k .last) s (m ∷ t) (inr (k .waits))),
             times-in (owners (k .last)) (to m) (subst (λ y. Mem y (owners (k .last))) (k .dst) (closed-in k .owned)),
           ))

@@ -1,24 +1,23 @@
 -- One step from a good state, whatever the command; and the fresh ring is good. Assumes nothing.
 use mathlib.Core.Path.{_≡_, refl, sym, _∙_, ap, subst}
 use mathlib.Core.Logic.{_⊎_, inl, inr, _≢_}
-use mathlib.Core.Bool.{Bool, true, false, not, _&&_}
-use mathlib.Core.List.{List, [], _∷_, _++_, map, map-append, append-assoc}
+use mathlib.Core.Bool.{Bool, true, false, _&&_}
+use mathlib.Core.List.{List, [], _∷_, _++_, map, map-append}
 use Prim.Native.Nat.{ℕ, suc, _+_, _≤_, _<_}
 use native.Mathlib.Decide.{ℕ-discrete}
 use native.Mathlib.Nat.{add-zero}
-use native.Mathlib.Numerals.{add-one}
 use native.Mathlib.Omega.{arith}
 use lib.Dec.{T, ltb, eqb, eqb→eq, lt→ltb, ltb→lt}
-use lib.ListN.{length, getD, set, take, drop, length-append, length-map, List·getD-map}
+use lib.ListN.{length, getD, take, drop, length-append, length-map, List·getD-map}
 use lib.Seq.{getD-set-same, getD-set-other, split-at, getD-take, length-take-le, take-at, drop-at, append-snoc}
-use borrow.Author.Tests.{eqb-true}
-use Rattle.lists.specs.Choice.{if_then_else_, choose, granted, tested}
-use Rattle.lists.specs.Members.{Mem, mem-mid, all-at, getD-any, by-row}
-use Rattle.lists.specs.Search.{Found, Missed, search-ends}
+use Rattle.lists.specs.Basics.{if_then_else_}
+use Rattle.lists.specs.Choice.{choose, granted, tested}
+use Rattle.lists.specs.Members.{mem-mid, all-at, getD-any, by-row}
+use Rattle.lists.specs.Search.{Located, Missed, search-ends}
 use Rattle.lists.specs.Tests.{and-left, and-right, and-both, →eqb, true-T, T-true}
 use Rattle.protocol.specs.declared.Row.{Row}
-use Rattle.protocol.specs.declared.Message.{Message}
-use Rattle.protocol.specs.Record.{round, State, count, row, identifier, message, noMessage, outside, taken}
+use Rattle.protocol.specs.Names.{INSIDE, OUTSIDE}
+use Rattle.protocol.specs.Record.{round, State, count, row, identifier, message, noMessage, outside, withoutMessage}
 use Rattle.protocol.specs.Fresh.{founder, alone, foundedBy, fresh}
 use Rattle.protocol.specs.Kinds.{handle}
 use Rattle.protocol.specs.Step as step
@@ -40,7 +39,7 @@ pub record Oldest (ms : List Msg) (s : State) (x y j : ℕ) : Type 0 where
   pub post : List Msg
   pub whole : ms ≡ pre ++ (msg ∷ post)
   pub is : message s j ≡ erase msg
-  pub rest : taken s j .messages ≡ map erase pre ++ map erase post
+  pub rest : withoutMessage s j .messages ≡ map erase pre ++ map erase post
   pub clear : Clear msg pre
   pub src : from msg ≡ x
   pub dst : to msg ≡ y
@@ -65,9 +64,9 @@ module _ (s : State) (ms : List Msg) (same : s .messages ≡ map erase ms) (x y 
       (→eqb _ x (ap (λ z. z .from) (message-is i l) ∙ p)) (→eqb _ y (ap (λ z. z .to) (message-is i l) ∙ q)))
 
   -- what a search finds is the oldest of its link
-  found-is : Found (onLink s x y) (length (s .messages)) → Oldest ms s x y (oldest s x y)
+  located-is : Located (onLink s x y) (length (s .messages)) → Oldest ms s x y (oldest s x y)
   unfolding onLink
-  found-is k = record {
+  located-is k = record {
     pre = take j ms;
     msg = getD ms j any;
     post = drop (suc j) ms;
@@ -127,16 +126,16 @@ module _ (id : ℕ → ℕ) (small : (h : ℕ) → id h < round) (c : ℕ) (inj 
   Ok q b r = Fine id c members ks q b r
 
   abbrev Ends : ℕ → ℕ → Type 0
-  Ends x y = Found (onLink s x y) (length (s .messages)) ⊎ Missed (onLink s x y) (length (s .messages))
+  Ends x y = Located (onLink s x y) (length (s .messages)) ⊎ Missed (onLink s x y) (length (s .messages))
 
   -- a delivery on a link where something waits is not refused
-  pub delivered-fine : (x y : ℕ) → Found (onLink s x y) (length (s .messages)) → Ok (s .asked) false (step.deliver s x y)
+  pub delivered-fine : (x y : ℕ) → Located (onLink s x y) (length (s .messages)) → Ok (s .asked) false (step.deliver s x y)
   unfolding step.deliver delivered
   delivered-fine x y k =
       granted (Ok (s .asked) false) _ _ _
       (and-both (ltb x (count s)) (ltb y (count s)) (lt→ltb x (count s) (omega (arith, rw (o .src) at (N .src), size′))) (lt→ltb y (count s) (omega (arith, rw (o .dst) at (N .dst), size′))))
       (granted (Ok (s .asked) false) _ _ _ (lt→ltb _ _ (k .below))
-      (subst (λ z. Ok (s .asked) false (conclude (taken s j) y (handle (identifier s (row s y .pred)) (row s y) (row s (z .a)) z))) (sym (o .is))
+      (subst (λ z. Ok (s .asked) false (conclude (withoutMessage s j) y (handle (identifier s (row s y .pred)) (row s y) (row s (z .a)) z))) (sym (o .is))
       (subst (λ z. Ok (s .asked) false (conclude (record { rows = s .rows; messages = z; asked = s .asked }) y (handle (identifier s (row s y .pred)) (row s y) (row s (erase (o .msg) .a)) (erase (o .msg))))) (sym (o .rest))
       (subst (λ z. Ok (s .asked) false (conclude (record { rows = s .rows; messages = map erase (o .pre) ++ map erase (o .post); asked = s .asked }) z (handle (identifier s (row s z .pred)) (row s z) (row s (erase (o .msg) .a)) (erase (o .msg))))) (o .dst)
       (deliver-fine id small c inj (s .rows) (s .asked) members ks (o .pre) (o .post) (o .msg) (o .clear) H)))))
@@ -145,7 +144,7 @@ module _ (id : ℕ → ℕ) (small : (h : ℕ) → id h < round) (c : ℕ) (inj 
       j = oldest s x y
 
       o : Oldest (G .ms) s x y j
-      o = found-is s (G .ms) (G .same) x y k
+      o = located-is s (G .ms) (G .same) x y k
 
       H : Holds id c (s .rows) (s .asked) members ks (o .pre ++ (o .msg ∷ o .post))
       H = subst (Holds id c (s .rows) (s .asked) members ks) (o .whole) (G .holds)
@@ -187,8 +186,8 @@ module _ (id : ℕ → ℕ) (small : (h : ℕ) → id h < round) (c : ℕ) (inj 
 
 -- The invariant of a ring in which hub f is alone.
 module _ (id : ℕ → ℕ) (c : ℕ) (S : Hubs) (f : ℕ) (lf : f < c)
-    (core-f : S .core f ≡ record { state = 2; lock = 0; flag = 0; pred = f; oldpred = 255 })
-    (core-off : (h : ℕ) → h ≢ f → S .core h ≡ record { state = 0; lock = 0; flag = 0; pred = 255; oldpred = 255 })
+    (core-f : S .core f ≡ record { state = INSIDE; lock = 0; flag = 0; pred = f; oldpred = 255 })
+    (core-off : (h : ℕ) → h ≢ f → S .core h ≡ record { state = OUTSIDE; lock = 0; flag = 0; pred = 255; oldpred = 255 })
     (succ-f : S .succ f ≡ f) (led-f : S .led f ≡ 1) (led-off : (h : ℕ) → h ≢ f → S .led h ≡ 0) where
   alone-inv : Inv round id c S [] []
   alone-inv = record {

@@ -1,57 +1,41 @@
 -- DEMAND 3, proved: every list of calls from every fresh ring. Assumes nothing.
 use mathlib.Core.Path.{_≡_, refl, sym, _∙_, ap, subst}
-use mathlib.Core.Logic.{_⊎_, inl, inr, _≢_}
-use mathlib.Core.Bool.{Bool, true, false, _&&_, true≢false}
-use mathlib.Core.List.{List, [], _∷_, _++_, map, append-nil}
+use mathlib.Core.Logic.{_⊎_, inl, inr}
+use mathlib.Core.Bool.{true, false, true≢false}
+use mathlib.Core.List.{List, [], _∷_, _++_, map, append-nil, append-assoc}
 use Prim.Native.Nat.{ℕ, zero, suc, _+_, _≤_, _<_}
 use native.Mathlib.Decide.{decLt}
 use native.Mathlib.Omega.{arith}
-use lib.Dec.{T, leb, ltb, eqb, leb→le, le→leb, ltb→lt, eqb→eq, lt→ltb}
-use lib.ListN.{length, getD, drop, length-append, List·getD-eq-default}
+use lib.Dec.{T, eqb}
+use lib.ListN.{length, getD, length-append, List·getD-eq-default}
 use Rattle.clockwise.specs.Laws.{In, within-in}
-use Rattle.lists.specs.Choice.{if_then_else_, require, granted}
-use Rattle.lists.specs.Members.{Mem, mem-at, place, All, all-mem, times, ind}
-use Rattle.lists.specs.Search.{Found as Located, Missed, search-ends}
-use Rattle.lists.specs.Tests.{and-left, and-right, and-both, true-T, T-true, →eqb, distinct, Distinct, says-distinct}
+use Rattle.lists.specs.Basics.{if_then_else_, Mem, All, times}
+use Rattle.lists.specs.Members.{mem-at, place, all-mem}
+use Rattle.lists.specs.Search.{Located, Missed, search-ends}
+use Rattle.lists.specs.Tests.{and-left, and-right, and-both, true-T, T-true, →eqb, Distinct, says-distinct}
 use Rattle.protocol.specs.declared.Message.{Message}
 use Rattle.protocol.specs.declared.Answer.{Answer}
-use Rattle.protocol.specs.declared.Answer.the-variants.{Quiet, Found, Entered, Gone, JoinTurnedAway, LeaveTurnedAway, Joined, Left}
+use Rattle.protocol.specs.declared.Answer.the-variants.{Quiet, Found}
 use Rattle.protocol.specs.declared.Outcome.{Outcome}
 use Rattle.protocol.specs.declared.Outcome.the-variants.{Refused, Answered}
-use Rattle.protocol.specs.Record.{round, mostNodes, recordSize, State, count, row, message, noMessage, read, words}
-use Rattle.protocol.specs.WellFormed.{wellFormed}
+use Rattle.protocol.specs.Names.{INSIDE, WANTING-TO-LEAVE}
+use Rattle.protocol.specs.Record.{round, mostNodes, State, row, message, noMessage}
 use Rattle.protocol.specs.Fresh.{fresh}
 use Rattle.protocol.specs.Routing.{responsible, covers}
 use Rattle.protocol.specs.Step.{Result, refused, step, deliver, onLink}
 use Rattle.protocol.specs.Step.{accepted as went}
-use Rattle.protocol.specs.Calls.{Called, long, onRecord, written, turnedDown, stepCall, freshCall}
 use Rattle.protocol.specs.Membership.{foundingMembers, afterOutcome, afterAnswer, node, ownerAmong, holds, waiting, foundTicket, ticketOf, acceptedAsk}
-use Rattle.layout.specs.Words.{read-words, drop-words}
-use Rattle.layout.specs.Form.{Form, well-formed-words, long-words}
+use Rattle.layout.specs.Form.{Form}
 use Rattle.atomicity.specs.Members.{mark, owner-computed}
 use Rattle.atomicity.specs.Neighbours.{owner-of, holder-one}
 use Rattle.atomicity.specs.Invariant.{Msg, erase, Inv}
 use Rattle.atomicity.specs.Invariant.{lookup, join, joinRetry, joinPoint, newSucc, newSuccAck, joinDone}
 use Rattle.atomicity.specs.Invariant.{leaveReq, leaveRetry, leaveGrant, leavePoint, updateSucc, stopForward, leaveDone}
-use Rattle.atomicity.specs.Good.{rowOf, hubs, total, asks, Holds, Good, Names, Next, Fine, fine-next, not-refused}
-use Rattle.atomicity.specs.Preserved.{Leaves, leaves-form, step-form, fresh-form, responsible-states}
+use Rattle.atomicity.specs.Good.{rowOf, hubs, total, asks, Holds, Good, Names, Fine, fine-next, not-refused}
+use Rattle.atomicity.specs.Preserved.{fresh-form, responsible-states}
+use Rattle.atomicity.specs.Engines.{refused-answered, left, On, Begun, Laws, present-laws}
 use Rattle.atomicity.specs.Run.{question, step-fine, delivered-fine, fresh-good}
-use Rattle.atomicity.specs.Demand3.{Call, Word, ThreeWords, called, Event, history, recordAfter, membersAfter, questionsAccepted, foundTickets, Claims, Demand3}
-
--- On the words of a well-formed state a call is the step of that state.
-pub call-is : (s : State) (tail : List ℕ) (c : Call) → Form s
-    → called (words s ++ tail) c ≡ written (words s ++ tail) (step s (c .operation) (c .x) (c .y))
-unfolding stepCall onRecord long
-call-is s tail c f =
-    granted (λ z. z ≡ written w r) _ _ _ (le→leb _ _ (long-words s tail f))
-    (granted (λ z. z ≡ written w r) _ _ _ (well-formed-words s tail f)
-    (ap (λ z. written w (step z (c .operation) (c .x) (c .y))) (read-words s tail (f .few))))
-  where
-    w : List ℕ
-    w = words s ++ tail
-
-    r : Result
-    r = step s (c .operation) (c .x) (c .y)
+use Rattle.atomicity.specs.Demand3.{Call, Word, ThreeWords, Engine, present, called, Event, history, recordAfter, membersAfter, questionsAccepted, foundTickets, Founded, Reached, Claims, Demand3}
 
 -- Identifiers that differ: two hubs with the same one are one hub.
 pub distinct-apart : (l : List ℕ) → Distinct l → (a b : ℕ) → a < length l → b < length l → getD l a 0 ≡ getD l b 0 → a ≡ b
@@ -73,27 +57,20 @@ times-append : (a b : List ℕ) (k : ℕ) → times (a ++ b) k ≡ times a k + t
 times-append [] b k = omega arith
 times-append (x ∷ a) b k = omega (arith, times-append a b k)
 
--- the answer of an outcome that has one, and that a refusal has none
+-- the answer of an outcome that has one
 answerIn : Outcome → Answer
 answerIn (Refused k) = Quiet
 answerIn (Answered a) = a
 
-isRefused : Outcome → Bool
-isRefused (Refused k) = true
-isRefused (Answered a) = false
+-- The identifiers of a ring that was founded.
+pub record Ring (ids : List ℕ) : Type 0 where
+  pub some : 1 ≤ length ids
+  pub few : length ids ≤ mostNodes
+  pub differ : Distinct ids
+  pub small : (h : ℕ) → getD ids h 0 < round
+  pub inj : (a b : ℕ) → a < length ids → b < length ids → getD ids a 0 ≡ getD ids b 0 → a ≡ b
 
-refused-answered : {k : ℕ} {a : Answer} → Refused k ≡ Answered a → ⊥
-unfolding isRefused
-refused-answered e = true≢false (ap isRefused e)
-
--- A ring of the identifiers ids, in a slice with `tail` behind the record.
-module _ (ids tail : List ℕ) (small : (h : ℕ) → getD ids h 0 < round) (inj : (a b : ℕ) → a < length ids → b < length ids → getD ids a 0 ≡ getD ids b 0 → a ≡ b) where
-  abbrev id : ℕ → ℕ
-  id h = getD ids h 0
-
-  abbrev c : ℕ
-  c = length ids
-
+module _ (ids : List ℕ) where
   -- each found answer among the events names the ledger's owner at that call
   abbrev Named : List ℕ → List Event → Type 0
   Named members [] = Unit {0}
@@ -108,17 +85,64 @@ module _ (ids tail : List ℕ) (small : (h : ℕ) → getD ids h 0 < round) (inj
   named-at members [] e after n = n .0
   named-at members (x ∷ before) e after n = named-at (afterOutcome members (x .outcome)) before e after (n .1)
 
-  -- what a call leads to: the words of a good, well-formed state; ks are the tickets answered before the events
-  record Reached (members ks : List ℕ) (q : ℕ) (events : List Event) (w : List ℕ) : Type 0 where
-    state : State
-    form : Form state
-    is : w ≡ words state ++ tail
-    tickets : List ℕ
-    good : Good id c state (membersAfter members events) tickets
-    count : state .asked ≡ q + questionsAccepted events
-    each : (k : ℕ) → times tickets k ≡ times (foundTickets events) k + times ks k
-    all : length tickets ≡ length (foundTickets events) + length ks
-    named : Named members events
+  -- one event more
+  members-last : (members : List ℕ) (events : List Event) (e : Event) → membersAfter members (events ++ (e ∷ [])) ≡ afterOutcome (membersAfter members events) (e .outcome)
+  unfolding membersAfter
+  members-last members [] e = refl
+  members-last members (x ∷ events) e = members-last (afterOutcome members (x .outcome)) events e
+
+  accepted-last : (events : List Event) (e : Event) → questionsAccepted (events ++ (e ∷ [])) ≡ questionsAccepted events + acceptedAsk (e .call .operation) (e .outcome)
+  unfolding questionsAccepted
+  accepted-last [] e = omega arith
+  accepted-last (x ∷ events) e = omega (arith, accepted-last events e)
+
+  found-last : (events : List Event) (e : Event) → foundTickets (events ++ (e ∷ [])) ≡ foundTickets events ++ ticketOf (e .outcome)
+  unfolding foundTickets
+  found-last [] e = append-nil (ticketOf (e .outcome))
+  found-last (x ∷ events) e =
+      ap (λ l. ticketOf (x .outcome) ++ l) (found-last events e) ∙ sym (append-assoc (ticketOf (x .outcome)) (foundTickets events) (ticketOf (e .outcome)))
+
+  named-last : (members : List ℕ) (events : List Event) (e : Event) → Named members events
+      → ((hub number ticket hops : ℕ) → e .outcome ≡ Answered (Found hub number ticket hops) → ownerAmong ids (membersAfter members events) number ≡ node hub)
+      → Named members (events ++ (e ∷ []))
+  unfolding membersAfter
+  named-last members [] e n f = (f, tt)
+  named-last members (x ∷ events) e n f = (n .0, named-last (afterOutcome members (x .outcome)) events e (n .1) f)
+
+  -- What stands behind a record of a form, with these calls behind it: the words of a state that the form holds, and that is good.
+  -- P is whatever else the calls keep, of the ledger and the state.
+  module _ (engine : Engine) (L : Laws engine) (P : List ℕ → State → Type 0) where
+    pub record Course (events : List Event) (w : List ℕ) : Type 0 where
+      pub ring : Ring ids
+      pub state : State
+      pub tail : List ℕ
+      pub fits : L .Fits state
+      pub is : w ≡ L .put state tail
+      pub tickets : List ℕ
+      pub good : Good (λ h. getD ids h 0) (length ids) state (membersAfter (foundingMembers ids) events) tickets
+      pub also : P (membersAfter (foundingMembers ids) events) state
+      pub count : state .asked ≡ questionsAccepted events
+      pub each : (k : ℕ) → times tickets k ≡ times (foundTickets events) k
+      pub all : length tickets ≡ length (foundTickets events)
+      pub named : Named (foundingMembers ids) events
+
+  -- What holds after a step, refused or not, and that a form's steps keep it.
+  abbrev pub Kept : (List ℕ → State → Type 0) → List ℕ → Result → Type 0
+  Kept P members (refused k) = Unit {0}
+  Kept P members (went a s) = P (afterAnswer members a) s
+
+  abbrev pub Keeps : (List ℕ → State → Type 0) → Type 0
+  Keeps P =
+      Ring ids → (s : State) (members ks : List ℕ) → Form s → Good (λ h. getD ids h 0) (length ids) s members ks → P members s
+      → (operation x y : ℕ) → Word y → Kept P members (step s operation x y)
+
+-- A ring of the identifiers ids.
+module _ (ids : List ℕ) (small : (h : ℕ) → getD ids h 0 < round) (inj : (a b : ℕ) → a < length ids → b < length ids → getD ids a 0 ≡ getD ids b 0 → a ≡ b) where
+  abbrev id : ℕ → ℕ
+  id h = getD ids h 0
+
+  abbrev c : ℕ
+  c = length ids
 
   -- members are hubs
   members-below : (s : State) (members ks : List ℕ) → Good id c s members ks → (h : ℕ) → mark members h ≡ 1 → h < c
@@ -139,67 +163,14 @@ module _ (ids tail : List ℕ) (small : (h : ℕ) → getD ids h 0 < round) (inj
       let k = subst (Names id members) (ap answerIn e) n in
       owner-computed ids c small inj members (members-below s members ks G) number hub (k .0) (k .1)
 
-  -- one event in front of those that follow it
-  more : (members ks : List ℕ) (q q′ : ℕ) (k : Call) (o : Outcome) (events : List Event) (w : List ℕ)
-      → ((hub number ticket hops : ℕ) → o ≡ Answered (Found hub number ticket hops) → ownerAmong ids members number ≡ node hub)
-      → q′ ≡ q + acceptedAsk (k .operation) o → Reached (afterOutcome members o) (ticketOf o ++ ks) q′ events w
-      → Reached members ks q (record { call = k; outcome = o } ∷ events) w
-  unfolding membersAfter questionsAccepted foundTickets
-  more members ks q q′ k o events w named e r = record {
-    state = r .state;
-    form = r .form;
-    is = r .is;
-    tickets = r .tickets;
-    good = r .good;
-    count = omega (arith, r .count);
-    each = λ t. omega (arith, r .each t, times-append (ticketOf o) ks t, times-append (ticketOf o) (foundTickets events) t);
-    all = omega (arith, r .all, length-append (ticketOf o) ks, length-append (ticketOf o) (foundTickets events));
-    named = (named, r .named);
-  }
-
-  -- one call, and those after it
-  goes : (s : State) (members ks : List ℕ) → Form s → Good id c s members ks → (k : Call) → Word (k .y) → (calls : List Call)
-      → ((s′ : State) (members′ ks′ : List ℕ) → Form s′ → Good id c s′ members′ ks′ → Reached members′ ks′ (s′ .asked) (history (words s′ ++ tail) calls) (recordAfter (words s′ ++ tail) calls))
-      → Reached members ks (s .asked) (history (words s ++ tail) (k ∷ calls)) (recordAfter (words s ++ tail) (k ∷ calls))
-  unfolding history recordAfter written afterOutcome ticketOf acceptedAsk
-  goes s members ks f G k ly calls ih =
-      subst (λ z. Reached members ks (s .asked) (record { call = k; outcome = z .outcome } ∷ history (z .slice) calls) (recordAfter (z .slice) calls)) (sym (call-is s tail k f))
-      (go (step s (k .operation) (k .x) (k .y)) (step-fine id small c inj s members ks G (k .operation) (k .x) (k .y) ly) (step-form s f (k .operation) (k .x) (k .y)))
-    where
-      go : (r : Result) → Fine id c members ks (s .asked + question (k .operation)) true r → Leaves r
-          → Reached members ks (s .asked) (record { call = k; outcome = written (words s ++ tail) r .outcome } ∷ history (written (words s ++ tail) r .slice) calls) (recordAfter (written (words s ++ tail) r .slice) calls)
-      go (refused z) fine leaves =
-          more members ks (s .asked) (s .asked) k (Refused z) _ _ (λ hub number ticket hops e. absurd (refused-answered e)) (omega arith) (ih s members ks f G)
-      go (went a s′) fine leaves =
-          let n = fine-next id c members ks (s .asked + question (k .operation)) true a s′ fine in
-          subst (λ t. Reached members ks (s .asked) (record { call = k; outcome = Answered a } ∷ history (words s′ ++ t) calls) (recordAfter (words s′ ++ t) calls)) (sym (drop-words s tail (f .few) (f .short)))
-          (more members ks (s .asked) (s′ .asked) k (Answered a) _ _ (owner-named G a (n .named)) (n .asked) (ih s′ (afterAnswer members a) (foundTicket a ++ ks) (leaves-form a s′ leaves) (n .good)))
-
-  -- every list of calls
-  runs : (s : State) (members ks : List ℕ) → Form s → Good id c s members ks → (calls : List Call) → All ThreeWords calls
-      → Reached members ks (s .asked) (history (words s ++ tail) calls) (recordAfter (words s ++ tail) calls)
-  unfolding history recordAfter membersAfter questionsAccepted foundTickets
-  runs s members ks f G [] w = record {
-    state = s;
-    form = f;
-    is = refl;
-    tickets = ks;
-    good = G;
-    count = omega arith;
-    each = λ k. omega arith;
-    all = omega arith;
-    named = tt;
-  }
-  runs s members ks f G (k ∷ calls) w = goes s members ks f G k (w .0 .y) calls (λ s′ members′ ks′ f′ G′. runs s′ members′ ks′ f′ G′ calls (w .1))
-
   -- What holds of a good state.
-  module _ (s : State) (members ks : List ℕ) (f : Form s) (G : Good id c s members ks) where
+  module _ (s : State) (members ks : List ℕ) (G : Good id c s members ks) where
     abbrev H : Holds id c (s .rows) (s .asked) members ks (G .ms)
     H = G .holds
 
     -- a holder is in the ring, a member, and its range is that of the ring's identifiers
     record Holder (h v : ℕ) : Type 0 where
-      low : 2 ≤ row s h .state
+      low : INSIDE ≤ row s h .state
       member : mark members h ≡ 1
       at : In round (id (row s h .pred)) (id h) v
 
@@ -210,7 +181,7 @@ module _ (ids tail : List ℕ) (small : (h : ℕ) → getD ids h 0 < round) (inj
         t : T (holds s h v)
         t = true-T _ e
 
-        w : (2 ≤ row s h .state) × (row s h .state ≤ 3)
+        w : (INSIDE ≤ row s h .state) × (row s h .state ≤ WANTING-TO-LEAVE)
         w = responsible-states (row s h) (and-left (responsible (row s h)) _ t)
 
         at : In round (id (row s h .pred)) (id h) v
@@ -270,25 +241,155 @@ module _ (ids tail : List ℕ) (small : (h : ℕ) → getD ids h 0 < round) (inj
             (→eqb (message s (p .0) .from) (m .from) (ap (λ z. z .from) (p .2))) (→eqb (message s (p .0) .to) (m .to) (ap (λ z. z .to) (p .2)))))
             ∙ l .none (p .0) (p .1)))
 
-    next : (m : Message) → Mem m (s .messages) → (k : ℕ) → called (words s ++ tail) (record { operation = 3; x = m .from; y = m .to }) .outcome ≡ Refused k → ⊥
-    unfolding step if_then_else_ written
+    -- so a delivery there is not refused
+    next : (m : Message) → Mem m (s .messages) → (k : ℕ) → deliver s (m .from) (m .to) ≡ refused k → ⊥
     next m i k e =
-        go (deliver s (m .from) (m .to)) (delivered-fine id small c inj s members ks G (m .from) (m .to) (waits m i))
-        (sym (ap (λ z. z .outcome) (call-is s tail (record { operation = 3; x = m .from; y = m .to }) f)) ∙ e)
-      where
-        go : (r : Result) → Fine id c members ks (s .asked) false r → written (words s ++ tail) r .outcome ≡ Refused k → ⊥
-        go (refused z) fine q = not-refused id c members ks (s .asked) z fine
-        go (went a s′) fine q = refused-answered (sym q)
+        not-refused id c members ks (s .asked) k
+        (subst (Fine id c members ks (s .asked) false) e (delivered-fine id small c inj s members ks G (m .from) (m .to) (waits m i)))
 
-  -- the claims, of any events that lead from the fresh ring to a state
-  claimed : (events : List Event) (w : List ℕ) → Reached (foundingMembers ids) [] 0 events w → Claims ids events w
-  claimed events w r = subst (Claims ids events) (sym (r .is)) (record {
-    single = λ v h k lv p q. single s members (r .tickets) (r .form) (r .good) v h k lv (held h v p) (held k v q);
-    owner = λ v h lv p. owner s members (r .tickets) (r .form) (r .good) v h lv (held h v p);
-    found = λ before e after q. named-at (foundingMembers ids) before e after (subst (Named (foundingMembers ids)) q (r .named));
-    questions = omega (arith, r .count, r .all, questions s members (r .tickets) (r .form) (r .good), ap (λ z. waiting (z .messages)) same);
-    once = λ k. omega (arith, r .each k, once s members (r .tickets) (r .form) (r .good) k);
-    next = λ m i. next s members (r .tickets) (r .form) (r .good) m (subst (λ z. Mem m (z .messages)) same i);
+-- One call more.
+module _ (ids : List ℕ) (engine : Engine) (L : Laws engine) (P : List ℕ → State → Type 0) (keeping : Keeps ids P) where
+  abbrev Way : List Event → List ℕ → Type 0
+  Way events w = Course ids engine L P events w
+
+  abbrev after : List Event → List ℕ
+  after events = membersAfter (foundingMembers ids) events
+
+  more : (events : List Event) (w : List ℕ) (r : Way events w) (k : Call) (o : Outcome) (s : State) (tail ks : List ℕ)
+      → L .Fits s → Good (λ h. getD ids h 0) (length ids) s (afterOutcome (after events) o) ks → P (afterOutcome (after events) o) s
+      → s .asked ≡ r .state .asked + acceptedAsk (k .operation) o → ks ≡ ticketOf o ++ r .tickets
+      → ((hub number ticket hops : ℕ) → o ≡ Answered (Found hub number ticket hops) → ownerAmong ids (after events) number ≡ node hub)
+      → Way (events ++ (record { call = k; outcome = o } ∷ [])) (L .put s tail)
+  more events w r k o s tail ks f G p ea ek named =
+      let e : Event = record { call = k; outcome = o } in
+      let m = members-last ids (foundingMembers ids) events e in
+      let q = found-last ids events e in
+      record {
+        ring = r .ring;
+        state = s;
+        tail = tail;
+        fits = f;
+        is = refl;
+        tickets = ks;
+        good = subst (λ z. Good (λ h. getD ids h 0) (length ids) s z ks) (sym m) G;
+        also = subst (λ z. P z s) (sym m) p;
+        count = omega (arith, r .count, accepted-last ids events e);
+        each = λ t. omega (
+          arith,
+          ap (λ l. times l t) ek,
+          ap (λ l. times l t) q,
+          times-append (ticketOf o) (r .tickets) t,
+          times-append (foundTickets events) (ticketOf o) t,
+          r .each t,
+        );
+        all = omega (arith, ap length ek, ap length q, length-append (ticketOf o) (r .tickets), length-append (foundTickets events) (ticketOf o), r .all);
+        named = named-last ids (foundingMembers ids) events e (r .named) named;
+      }
+
+  goes : (events : List Event) (w : List ℕ) → Way events w → (k : Call) → Word (k .y)
+      → Way (events ++ (record { call = k; outcome = called engine w k .outcome } ∷ [])) (called engine w k .slice)
+  unfolding afterOutcome ticketOf acceptedAsk
+  goes events w r k ly =
+      subst (λ z. Way (events ++ (record { call = k; outcome = called engine z k .outcome } ∷ [])) (called engine z k .slice)) (sym (r .is))
+      (subst (λ z. Way (events ++ (record { call = k; outcome = z .outcome } ∷ [])) (z .slice)) (sym (L .calls s tail k (r .fits)))
+      (go (step s (k .operation) (k .x) (k .y))
+      (step-fine _ small (length ids) inj s members (r .tickets) (r .good) (k .operation) (k .x) (k .y) ly)
+      (L .keeps s (r .fits) (k .operation) (k .x) (k .y))
+      (keeping (r .ring) s members (r .tickets) (L .form s (r .fits)) (r .good) (r .also) (k .operation) (k .x) (k .y) ly)))
+    where
+      s : State
+      s = r .state
+
+      tail : List ℕ
+      tail = r .tail
+
+      members : List ℕ
+      members = membersAfter (foundingMembers ids) events
+
+      small : (h : ℕ) → getD ids h 0 < round
+      small = r .ring .small
+
+      inj : (a b : ℕ) → a < length ids → b < length ids → getD ids a 0 ≡ getD ids b 0 → a ≡ b
+      inj = r .ring .inj
+
+      Ok : Result → Type 0
+      Ok x = Fine (λ h. getD ids h 0) (length ids) members (r .tickets) (s .asked + question (k .operation)) true x
+
+      go : (x : Result) → Ok x → On (L .Fits) x → Kept ids P members x
+          → Way (events ++ (record { call = k; outcome = left (L .put) (L .put s tail) tail x .outcome } ∷ [])) (left (L .put) (L .put s tail) tail x .slice)
+      go (refused z) fine f p =
+          more events w r k (Refused z) s tail (r .tickets) (r .fits) (r .good) (r .also) (omega arith) refl (λ hub number ticket hops e. absurd (refused-answered e))
+      go (went a s′) fine f p =
+          let n = fine-next _ (length ids) members (r .tickets) (s .asked + question (k .operation)) true a s′ fine in
+          more events w r k (Answered a) s′ tail (foundTicket a ++ r .tickets) f (n .good) p (n .asked) refl (owner-named ids small inj (r .good) a (n .named))
+
+  -- every list of calls
+  pub runs : (events : List Event) (w : List ℕ) → Way events w → (calls : List Call) → All ThreeWords calls
+      → Way (events ++ history engine w calls) (recordAfter engine w calls)
+  unfolding history recordAfter
+  runs events w r [] t = subst (λ z. Way z w) (sym (append-nil events)) r
+  runs events w r (k ∷ calls) t =
+      let e : Event = record { call = k; outcome = called engine w k .outcome } in
+      subst (λ z. Way z (recordAfter engine (called engine w k .slice) calls)) (append-assoc events (e ∷ []) (history engine (called engine w k .slice) calls))
+      (runs (events ++ (e ∷ [])) (called engine w k .slice) (goes events w r k (t .0 .y)) calls (t .1))
+
+  -- from a fresh ring
+  pub founded-course : (Ring ids → P (foundingMembers ids) (fresh ids)) → (events : List Event) (w : List ℕ) → Founded engine ids events w → Way events w
+  unfolding membersAfter questionsAccepted foundTickets fresh
+  founded-course start events w r =
+      subst (λ z. Way z w) (sym (r .happened))
+      (subst (Way (history engine (engine .founds (r .slice) ids .slice) (r .calls))) (sym (r .is))
+      (runs [] (engine .founds (r .slice) ids .slice) begin (r .calls) (r .commands)))
+    where
+      k : Begun (L .put) ids (engine .founds (r .slice) ids .slice)
+      k = L .begins (r .slice) ids (r .accepted)
+
+      differ : Distinct ids
+      differ = says-distinct ids .to (k .differ)
+
+      ring : Ring ids
+      ring = record { some = k .some; few = k .few; differ = differ; small = words-small ids (r .identifiers); inj = distinct-apart ids differ }
+
+      begin : Way [] (engine .founds (r .slice) ids .slice)
+      begin = record {
+        ring = ring;
+        state = fresh ids;
+        tail = k .tail;
+        fits = L .starts ids (fresh-form ids (k .some) (k .few) differ);
+        is = k .is;
+        tickets = [];
+        good = fresh-good ids (k .some);
+        also = start ring;
+        count = refl;
+        each = λ t. refl;
+        all = refl;
+        named = tt;
+      }
+
+-- Every reached record.
+module _ (ids : List ℕ) (P : List ℕ → State → Type 0) (keeping : Keeps ids P)
+    (start : Ring ids → P (foundingMembers ids) (fresh ids)) where
+  pub reached-course : (events : List Event) (w : List ℕ) → Reached ids events w → Course ids present present-laws P events w
+  reached-course events w r = founded-course ids present present-laws P keeping start events w r
+
+-- The claims, of any course.
+module _ (ids : List ℕ) (engine : Engine) (L : Laws engine) where
+  abbrev pub Any : List ℕ → State → Type 0
+  Any members s = Unit {0}
+
+  pub any-kept : (members : List ℕ) (r : Result) → Kept ids Any members r
+  any-kept members (refused k) = tt
+  any-kept members (went a s) = tt
+
+  claimed : (events : List Event) (w : List ℕ) → Course ids engine L Any events w → Claims engine ids events w
+  unfolding step if_then_else_
+  claimed events w r = subst (Claims engine ids events) (sym (r .is)) (record {
+    single = λ v h k lv p q. single ids small inj s members (r .tickets) (r .good) v h k lv (holds-of h v p) (holds-of k v q);
+    owner = λ v h lv p. owner ids small inj s members (r .tickets) (r .good) v h lv (holds-of h v p);
+    found = λ before e after q. named-at ids (foundingMembers ids) before e after (subst (Named ids (foundingMembers ids)) q (r .named));
+    questions = omega (arith, r .count, r .all, questions ids small inj s members (r .tickets) (r .good), ap (λ z. waiting (z .messages)) same);
+    once = λ k. omega (arith, r .each k, once ids small inj s members (r .tickets) (r .good) k);
+    next = λ m i. next-call m (subst (λ z. Mem m (z .messages)) same i);
   })
     where
       s : State
@@ -297,54 +398,29 @@ module _ (ids tail : List ℕ) (small : (h : ℕ) → getD ids h 0 < round) (inj
       members : List ℕ
       members = membersAfter (foundingMembers ids) events
 
-      same : read (words s ++ tail) ≡ s
-      same = read-words s tail (r .form .few)
+      small : (h : ℕ) → getD ids h 0 < round
+      small = r .ring .small
 
-      held : (h v : ℕ) → holds (read (words s ++ tail)) h v ≡ true → holds s h v ≡ true
-      held h v p = subst (λ z. holds z h v ≡ true) same p
+      inj : (a b : ℕ) → a < length ids → b < length ids → getD ids a 0 ≡ getD ids b 0 → a ≡ b
+      inj = r .ring .inj
 
--- What a fresh call has accepted, and what it wrote.
-record Founded (slice ids : List ℕ) : Type 0 where
-  some : 1 ≤ length ids
-  few : length ids ≤ mostNodes
-  differ : T (distinct ids)
-  is : freshCall slice ids .slice ≡ words (fresh ids) ++ drop recordSize slice
+      same : engine .reads (L .put s (r .tail)) ≡ s
+      same = L .reads s (r .tail) (r .fits)
 
-fresh-accepted : (slice ids : List ℕ) → freshCall slice ids .outcome ≡ Answered Quiet → Founded slice ids
-unfolding freshCall require if_then_else_ written
-fresh-accepted slice ids =
-    go (long slice) (leb 1 (length ids)) (leb→le 1 (length ids)) (leb (length ids) mostNodes) (leb→le (length ids) mostNodes) (distinct ids) (λ t. t) refl
-  where
-    given : Bool → Bool → Bool → Bool → Called
-    given a b c d =
-        require a (turnedDown slice 1) (require (b && c) (turnedDown slice 13) (require d (turnedDown slice 14) (written slice (went Quiet (fresh ids)))))
+      holds-of : (h v : ℕ) → holds (engine .reads (L .put s (r .tail))) h v ≡ true → holds s h v ≡ true
+      holds-of h v p = subst (λ z. holds z h v ≡ true) same p
 
-    go : (a b : Bool) → (T b → 1 ≤ length ids) → (c : Bool) → (T c → length ids ≤ mostNodes) → (d : Bool) → (T d → T (distinct ids))
-        → freshCall slice ids ≡ given a b c d → given a b c d .outcome ≡ Answered Quiet → Founded slice ids
-    go true true f true g true h e o = record { some = f tt; few = g tt; differ = h tt; is = ap (λ z. z .slice) e }
-    go true true f true g false h e o = absurd (refused-answered o)
-    go true true f false g d h e o = absurd (refused-answered o)
-    go true false f c g d h e o = absurd (refused-answered o)
-    go false b f c g d h e o = absurd (refused-answered o)
+      next-call : (m : Message) → Mem m (s .messages) → (k : ℕ) → called engine (L .put s (r .tail)) (record { operation = 3; x = m .from; y = m .to }) .outcome ≡ Refused k → ⊥
+      next-call m i k e =
+          go (deliver s (m .from) (m .to)) refl (sym (ap (λ z. z .outcome) (L .calls s (r .tail) (record { operation = 3; x = m .from; y = m .to }) (r .fits))) ∙ e)
+        where
+          go : (x : Result) → deliver s (m .from) (m .to) ≡ x → left (L .put) (L .put s (r .tail)) (r .tail) x .outcome ≡ Refused k → ⊥
+          go (refused z) d q =
+              next ids small inj s members (r .tickets) (r .good) m i z d
+          go (went a s′) d q = refused-answered (sym q)
 
 pub demand-3 : Demand3
-unfolding Demand3 fresh
-demand-3 slice ids calls small words32 e =
-    subst (λ z. Claims ids (history z calls) (recordAfter z calls)) (sym (k .is))
-    (claimed ids tail names apart (history (words (fresh ids) ++ tail) calls) (recordAfter (words (fresh ids) ++ tail) calls)
-    (runs ids tail names apart (fresh ids) (foundingMembers ids) [] (fresh-form ids (k .some) (k .few) differ) (fresh-good ids (k .some)) calls words32))
-  where
-    k : Founded slice ids
-    k = fresh-accepted slice ids e
-
-    tail : List ℕ
-    tail = drop recordSize slice
-
-    differ : Distinct ids
-    differ = says-distinct ids .to (k .differ)
-
-    names : (h : ℕ) → getD ids h 0 < round
-    names = words-small ids small
-
-    apart : (a b : ℕ) → a < length ids → b < length ids → getD ids a 0 ≡ getD ids b 0 → a ≡ b
-    apart = distinct-apart ids differ
+unfolding Demand3
+demand-3 ids events w r =
+    claimed ids present present-laws events w
+    (reached-course ids (λ m s. Unit {0}) (λ g s members ks f G p o x y l. any-kept ids present present-laws members (step s o x y)) (λ g. tt) events w r)

@@ -6,7 +6,7 @@ use Prim.Native.Nat.{ℕ, _+_, _-_, _%_, _≤_, _<_}
 use native.Mathlib.Nat.{mod-eq-of-lt, mod-lt, add-mod-right}
 use native.Mathlib.Decide.{decLe, ℕ-discrete}
 use native.Mathlib.Omega.{arith}
-use lib.Dec.{T, leb, eqb, leb→le, le→leb, eqb→eq, eqb-refl}
+use lib.Dec.{T, leb, eqb, leb→le, eqb→eq}
 use Rattle.clockwise.specs.Clockwise.{dist, within}
 
 -- v is in (a, b], as a statement
@@ -24,21 +24,6 @@ within-in n a b v t = go (eqb a b) (eqb→eq a b) (leb 1 (dist n a v)) (leb→le
     go false f true g true h t = inr (g tt, h tt)
     go false f true g false h t = absurd t
     go false f false g r h t = absurd t
-
-pub in-within : (n a b v : ℕ) → In n a b v → T (within n a b v)
-unfolding within In
-in-within n a b v (inl e) = left (eqb a b) (rw e (eqb-refl b))
-  where
-    left : (p : Bool) → T p → T (p || leb 1 (dist n a v) && leb (dist n a v) (dist n a b))
-    left true t = tt
-    left false t = absurd t
-in-within n a b v (inr w) = right (eqb a b) (leb 1 (dist n a v)) (leb (dist n a v) (dist n a b)) (le→leb _ _ (w .0)) (le→leb _ _ (w .1))
-  where
-    right : (p q r : Bool) → T q → T r → T (p || q && r)
-    right true q r s t = tt
-    right false true true s t = tt
-    right false true false s t = absurd t
-    right false false r s t = absurd s
 
 -- the sum at most one round ahead, taken back
 mod-once : (n x : ℕ) → n ≤ x → x < n + n → x % n ≡ x - n
@@ -122,15 +107,6 @@ module _ (n : ℕ) where
       go (inr w) (inl y) (inr z) p q r = inr (omega arith)
       go (inr w) (inr y) (inl z) p q r = inr (omega arith)
       go (inr w) (inr y) (inr z) p q r = inr (omega arith)
-
-  -- the end of an interval is in it
-  pub in-end : (a b : ℕ) → a < n → b < n → In n a b b
-  unfolding In
-  in-end a b ha hb = go (ℕ-discrete a b)
-    where
-      go : Dec (a ≡ b) → (a ≡ b) ⊎ ((1 ≤ dist n a b) × (dist n a b ≤ dist n a b))
-      go (yes e) = inl e
-      go (no e) = inr (dist-pos a b ha hb e, omega arith)
 
   -- (a, a] is the whole circle
   pub in-whole : (a b v : ℕ) → a ≡ b → In n a b v

@@ -8,9 +8,10 @@ use native.Mathlib.Omega.{arith}
 use lib.Dec.{leb, eqb}
 use lib.ListN.{length, take, drop, getD, set, replicate, length-append, length-replicate, length-map, take-append-drop, replicate-append-replicate}
 use lib.Seq.{drop-cons, drop-drop, set-at, append-snoc, take-suc, take-length, length-take-le}
-use Rattle.lists.specs.Tests.{true-T, says-and, says-le, distinct}
+use Rattle.lists.specs.Basics.{distinct, table, flat}
+use Rattle.lists.specs.Tests.{true-T, says-and, says-le}
 use Rattle.lists.specs.Splice.{splice, splice-at, drop-pad}
-use Rattle.lists.specs.Blocks.{table, table-of, flat, flat-append, length-flat}
+use Rattle.lists.specs.Blocks.{table-of, flat-append, length-flat}
 use Rattle.protocol.specs.Record.{form, mostNodes, rowSize, rowStart, recordSize, rowWords, unusedRowWords, unusedMessageWords, State, words, outside}
 use Rattle.protocol.specs.Fresh.{alone, fresh, founder}
 use Rattle.layout.specs.Words.{row-size}

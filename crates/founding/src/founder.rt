@@ -1,6 +1,7 @@
 // Who founds a ring, and the row that it then has.
 use protocol::Row;
 use protocol::form::NONE;
+use protocol::states;
 ghost use mathlib.Core.Path.{_≡_};
 ghost use Rattle.protocol.specs.Fresh.{alone, founder};
 
@@ -17,7 +18,7 @@ pub fn alone_row(node: u32, identifier: u32) -> Row
 {
     Row {
         identifier,
-        state: 2,
+        state: states::INSIDE,
         lock: 0,
         flag: 0,
         pred: node,

@@ -7,6 +7,7 @@ use lists::both;
 use protocol::Answer;
 use protocol::Outcome;
 use protocol::form::RECORD_WORDS;
+use protocol::refusals;
 use wellformed::repeated;
 ghost use mathlib.Core.Path.{_≡_};
 ghost use Rattle.protocol.specs.Calls.{freshCall};
@@ -16,13 +17,13 @@ pub fn fresh(w: &mut [u32], identifiers: &[u32]) -> Outcome
     ensures { λ r. ⌜ freshCall (now (w .entry)) (now (identifiers .entry)) ≡ record { outcome = r; slice = now (w .exit) } ⌝ }
 {
     if w.len() < RECORD_WORDS {
-        return Outcome::Refused(1);
+        return Outcome::Refused(refusals::RECORD_SHORT);
     }
     if !both(1 <= identifiers.len(), identifiers.len() <= 64) {
-        return Outcome::Refused(13);
+        return Outcome::Refused(refusals::IDENTIFIER_COUNT);
     }
     if repeated(identifiers, identifiers.len()) != 0 {
-        return Outcome::Refused(14);
+        return Outcome::Refused(refusals::IDENTIFIER_TWICE);
     }
     write_fresh(w, identifiers);
     Outcome::Answered(Answer::Quiet)

@@ -9,7 +9,7 @@ ghost use mathlib.Core.List.{_++_, map};
 ghost use Prim.Native.Nat.{_≤_};
 ghost use lib.ListN.{length, drop, replicate};
 ghost use Rattle.lists.specs.Splice.{splice};
-ghost use Rattle.lists.specs.Blocks.{flat};
+ghost use Rattle.lists.specs.Basics.{flat};
 ghost use Rattle.protocol.specs.Record.{mostNodes, rowStart, recordSize, rowWords, words, outside};
 ghost use Rattle.protocol.specs.Fresh.{fresh};
 

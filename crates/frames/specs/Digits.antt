@@ -1,15 +1,15 @@
 -- What digits are worth at most, and a test of all bytes from a place on. Assumes nothing.
-use mathlib.Core.Path.{_≡_, refl, sym, _∙_}
+use mathlib.Core.Path.{_≡_}
 use mathlib.Core.Bool.{Bool, true, false}
-use mathlib.Core.List.{List, []}
+use mathlib.Core.List.{List}
 use Prim.Native.Nat.{ℕ, _+_, _-_, _<_}
 use native.Mathlib.Numerals.{add-one}
 use native.Mathlib.Omega.{arith}
 use lib.Dec.{ltb, ltb→lt}
 use lib.ListN.{length, drop, getD}
-use lib.Seq.{drop-cons, drop-length}
+use lib.Seq.{drop-cons}
 use Rattle.lists.specs.Choice.{choose}
-use Rattle.lists.specs.Tests.{every}
+use Rattle.lists.specs.Basics.{every}
 use Rattle.protocol.specs.Frames.{digitValue, read2, read4}
 
 pub digit-bound : (b : ℕ) → digitValue b < 16

@@ -1,15 +1,13 @@
 -- Document 01's first and last line, and the readings of the frame's edge cases, computed. Assumes nothing.
 use mathlib.Core.Path.{_≡_, refl}
-use mathlib.Core.Bool.{_&&_, _||_}
 use mathlib.Core.List.{List, [], _∷_, _++_}
 use Prim.Native.Nat.{ℕ}
 use lib.ListN.{replicate}
-use Rattle.lists.specs.Choice.{if_then_else_, require}
-use Rattle.lists.specs.Tests.{every}
-use Rattle.lists.specs.Blocks.{table}
+use Rattle.lists.specs.Basics.{if_then_else_, require, every, table}
 use Rattle.protocol.specs.declared.Answer.the-variants.{Found}
 use Rattle.protocol.specs.declared.Outcome.the-variants.{Refused, Answered}
 use Rattle.protocol.specs.declared.Frame.the-variants.{Founding, Command, Unreadable}
+use Rattle.protocol.specs.Names.{IDENTIFIER-COUNT, UNREADABLE}
 use Rattle.protocol.specs.Answers.{answerWords}
 use Rattle.protocol.specs.Frames.{isDigit, digitValue, read2, read4, read8, founding, command, frame, identifierAt, identifiers, digitOf, print2, print4, print8, refusalText, fieldsText, outcomeText}
 
@@ -38,7 +36,7 @@ edges = (refl, refl, refl, refl, refl)
 -- 010100000096000000010002, and EE0D
 pub last-line :
     (outcomeText (Answered (Found 1 150 1 2)) ≡ 48 ∷ 49 ∷ 48 ∷ 49 ∷ (replicate 6 48 ++ (57 ∷ 54 ∷ (replicate 7 48 ++ (49 ∷ 48 ∷ 48 ∷ 48 ∷ 50 ∷ [])))))
-    × (outcomeText (Refused 13) ≡ 69 ∷ 69 ∷ 48 ∷ 68 ∷ [])
-    × (refusalText 255 ≡ 69 ∷ 69 ∷ 70 ∷ 70 ∷ [])
+    × (outcomeText (Refused IDENTIFIER-COUNT) ≡ 69 ∷ 69 ∷ 48 ∷ 68 ∷ [])
+    × (refusalText UNREADABLE ≡ 69 ∷ 69 ∷ 70 ∷ 70 ∷ [])
 unfolding answerWords digitOf print2 print4 print8 refusalText fieldsText outcomeText if_then_else_
 last-line = (refl, refl, refl)

@@ -1,15 +1,15 @@
 -- The identifiers of a founding: one more read, and that they all stand in the line. Assumes nothing.
 use mathlib.Core.Path.{_≡_, ap, sym, _∙_, subst}
 use mathlib.Core.List.{List, [], _∷_, _++_}
-use Prim.Native.Nat.{ℕ, suc, _+_, _-_, _*_, _/_, _%_, _≤_, _<_}
+use Prim.Native.Nat.{ℕ, _+_, _-_, _*_, _/_, _%_, _≤_, _<_}
 use native.Mathlib.Numerals.{add-one}
 use native.Mathlib.Omega.{arith}
 use lib.Dec.{leb, eqb, leb→le}
 use lib.ListN.{length, take, set}
 use lib.Seq.{take-suc-set}
 use Rattle.lists.specs.Choice.{choose, tested}
-use Rattle.lists.specs.Tests.{every}
-use Rattle.lists.specs.Blocks.{table, length-table}
+use Rattle.lists.specs.Basics.{every, table}
+use Rattle.lists.specs.Blocks.{length-table}
 use Rattle.protocol.specs.declared.Frame.{Frame}
 use Rattle.protocol.specs.declared.Frame.the-variants.{Founding, Command, Unreadable}
 use Rattle.protocol.specs.Frames.{isDigit, read2, read8, founding, command, frame, identifierAt, identifiers}
@@ -47,6 +47,6 @@ frame-fits l =
     (λ _. founding-fits (length l) (leb→le 2 (length l) t) (leb→le (length l) 514 s))
     (λ _. command-fits l))))
 
-pub found-fits : (l : List ℕ) (r : Frame) (k : ℕ) → r ≡ frame l → r ≡ Founding k → (k ≤ 64) × (2 + 8 * k ≤ length l)
+pub decoded-fits : (l : List ℕ) (r : Frame) (k : ℕ) → r ≡ frame l → r ≡ Founding k → (k ≤ 64) × (2 + 8 * k ≤ length l)
 unfolding Fits
-found-fits l r k e f = subst (Fits (length l)) (sym e ∙ f) (frame-fits l)
+decoded-fits l r k e f = subst (Fits (length l)) (sym e ∙ f) (frame-fits l)

@@ -8,11 +8,12 @@ use lib.ListN.{length, take}
 use lib.Seq.{take-all, length-take-le}
 use borrow.Author.Tests.{lt-leb, leb-true, leb-false}
 use lib.Dec.{leb}
-use Rattle.lists.specs.Choice.{require, if_then_else_}
+use Rattle.lists.specs.Basics.{require, if_then_else_}
 use Rattle.protocol.specs.declared.Frame.{Frame}
 use Rattle.protocol.specs.declared.Frame.the-variants.{Founding, Command, Unreadable}
 use Rattle.protocol.specs.declared.Line.{Line}
 use Rattle.protocol.specs.declared.Outcome.{Outcome}
+use Rattle.protocol.specs.Names.{UNREADABLE}
 use Rattle.protocol.specs.Calls.{Called, freshCall, stepCall}
 use Rattle.protocol.specs.Frames.{frame, identifiers, refusalText, outcomeText, line, answering, frameCall, lineCall}
 
@@ -37,7 +38,7 @@ module _ (w l : List ℕ) (f : Frame) (e : f ≡ frame l) where
     unfolding frameCall
     command-line operation x y k c = known (Command operation x y) k ∙ answered (stepCall w operation x y) o after p c q
 
-  pub unreadable-line : (p : Line) → f ≡ Unreadable → p ≡ line (refusalText 255) → lineCall w l ≡ record { printed = p; slice = w }
+  pub unreadable-line : (p : Line) → f ≡ Unreadable → p ≡ line (refusalText UNREADABLE) → lineCall w l ≡ record { printed = p; slice = w }
   unfolding frameCall
   unreadable-line p k q = known Unreadable k ∙ ap (λ z. record { printed = z; slice = w }) (sym q)
 

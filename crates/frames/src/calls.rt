@@ -7,6 +7,7 @@ use founding::fresh;
 use protocol::Frame;
 use protocol::Line;
 use protocol::Outcome;
+use protocol::refusals;
 use steps::step;
 ghost use mathlib.Core.Path.{_≡_};
 ghost use Prim.Native.Nat.{_+_, _*_, _≤_};
@@ -28,7 +29,7 @@ fn identifiers(line: &[u8], count: usize) -> [u32; 64]
     ids
 }
 
-fn found(w: &mut [u32], line: &[u8], count: usize) -> Outcome
+fn fresh_ring(w: &mut [u32], line: &[u8], count: usize) -> Outcome
     requires { ⌜ (count ≤ 64) × (2 + 8 * count ≤ length (now line)) ⌝ }
     ensures { λ r. ⌜ freshCall (now (w .entry)) (identifiersSpec (now (line .entry)) count) ≡ record { outcome = r; slice = now (w .exit) } ⌝ }
 {
@@ -42,10 +43,10 @@ pub fn answer_line(w: &mut [u32], line: &[u8]) -> Line
 {
     let frame = decode(line);
     if let Frame::Founding(count) = frame {
-        return outcome_line(found(w, line, count));
+        return outcome_line(fresh_ring(w, line, count));
     }
     let Frame::Command { operation, x, y } = frame else {
-        return refusal_line(255);
+        return refusal_line(refusals::UNREADABLE);
     };
     outcome_line(step(w, operation, x, y))
 }

@@ -4,7 +4,7 @@ use lists::either;
 ghost use mathlib.Core.Path.{_≡_};
 ghost use Prim.Native.Nat.{_+_, _≤_};
 ghost use lib.ListN.{length};
-ghost use Rattle.lists.specs.Tests.{every};
+ghost use Rattle.lists.specs.Basics.{every};
 ghost use Rattle.protocol.specs.Frames.{isDigit, digitValue, read2 as read2Spec, read4 as read4Spec, read8 as read8Spec};
 
 // Upper case only: a lower case letter is no digit.

@@ -3,6 +3,7 @@ use protocol::Decision;
 use protocol::Message;
 use protocol::Row;
 use protocol::kinds;
+use protocol::refusals;
 ghost use mathlib.Core.Path.{_≡_};
 ghost use Rattle.protocol.specs.Kinds.{handle as handleSpec};
 
@@ -26,6 +27,6 @@ pub fn handle(p: u32, h: Row, g: Row, m: Message) -> Decision
         kinds::UPDATESUCC => leaves::update_succ(h, m),
         kinds::STOPFORWARD => leaves::stop_forward(h, m),
         kinds::LEAVEDONE => leaves::leave_done(h, m),
-        _ => Decision::Refuse(10),
+        _ => Decision::Refuse(refusals::NOT_EXPECTED),
     }
 }

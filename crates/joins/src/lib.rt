@@ -6,6 +6,8 @@ use protocol::Route;
 use protocol::Row;
 use protocol::form::NONE;
 use protocol::kinds;
+use protocol::refusals;
+use protocol::states;
 use routing::note;
 use routing::route;
 ghost use mathlib.Core.Path.{_≡_};
@@ -50,14 +52,14 @@ pub fn join(p: u32, h: Row, g: Row, m: Message) -> Decision
 {
     let newcomer = g.state;
     match newcomer {
-        1 => {
+        states::JOINING => {
             let s = h.state;
             match s {
-                0 | 1 => join_retried(h, m),
+                states::OUTSIDE | states::JOINING => join_retried(h, m),
                 _ => join_routed(h, m, route(p, h, m.from, g.identifier)),
             }
         }
-        _ => Decision::Refuse(10),
+        _ => Decision::Refuse(refusals::NOT_EXPECTED),
     }
 }
 
@@ -67,13 +69,13 @@ pub fn join_retry(h: Row, m: Message) -> Decision
 {
     let s = h.state;
     match s {
-        1 => {
+        states::JOINING => {
             let mut outside = h;
-            outside.state = 0;
+            outside.state = states::OUTSIDE;
             outside.lock = 0;
             Decision::Reply(outside, Answer::JoinTurnedAway(m.to))
         }
-        _ => Decision::Refuse(10),
+        _ => Decision::Refuse(refusals::NOT_EXPECTED),
     }
 }
 
@@ -83,14 +85,14 @@ pub fn join_point(h: Row, m: Message) -> Decision
 {
     let s = h.state;
     match s {
-        1 => {
+        states::JOINING => {
             let mut inside = h;
-            inside.state = 2;
+            inside.state = states::INSIDE;
             inside.pred = m.a;
             inside.succ = m.from;
             Decision::Send(inside, note(kinds::NEWSUCC, m.to, m.a, 0), Answer::Quiet)
         }
-        _ => Decision::Refuse(10),
+        _ => Decision::Refuse(refusals::NOT_EXPECTED),
     }
 }
 
@@ -100,7 +102,7 @@ pub fn new_succ(h: Row, m: Message) -> Decision
 {
     let s = h.state;
     match s {
-        2 | 3 => {
+        states::INSIDE | states::WANTING_TO_LEAVE => {
             let mut relinked = h;
             relinked.succ = m.from;
             Decision::Send(
@@ -109,7 +111,7 @@ pub fn new_succ(h: Row, m: Message) -> Decision
                 Answer::Quiet,
             )
         }
-        _ => Decision::Refuse(10),
+        _ => Decision::Refuse(refusals::NOT_EXPECTED),
     }
 }
 
@@ -119,7 +121,7 @@ pub fn new_succ_ack(h: Row, m: Message) -> Decision
     ensures { λ r. ⌜ r ≡ newSuccAck h m ⌝ }
 {
     if h.flag != 1 {
-        return Decision::Refuse(10);
+        return Decision::Refuse(refusals::NOT_EXPECTED);
     }
     let mut admitted = h;
     admitted.flag = 0;
@@ -134,17 +136,17 @@ pub fn join_done(h: Row, m: Message) -> Decision
 {
     let s = h.state;
     match s {
-        2 => {
+        states::INSIDE => {
             if h.lock != 1 {
-                return Decision::Refuse(10);
+                return Decision::Refuse(refusals::NOT_EXPECTED);
             }
             if h.flag != 0 {
-                return Decision::Refuse(10);
+                return Decision::Refuse(refusals::NOT_EXPECTED);
             }
             let mut joined = h;
             joined.lock = 0;
             Decision::Reply(joined, Answer::Joined(m.to))
         }
-        _ => Decision::Refuse(10),
+        _ => Decision::Refuse(refusals::NOT_EXPECTED),
     }
 }

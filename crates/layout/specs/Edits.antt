@@ -4,13 +4,14 @@ use mathlib.Core.List.{List, [], _∷_, _++_, append-assoc}
 use Prim.Native.Nat.{ℕ, suc, _+_, _-_, _*_, _≤_, _<_}
 use native.Mathlib.Numerals.{add-one}
 use native.Mathlib.Omega.{arith}
-use lib.ListN.{length, take, drop, getD, set, replicate, length-append, length-set, length-drop, replicate-append-replicate}
+use lib.ListN.{length, take, drop, getD, set, length-append, length-set, length-drop, replicate-append-replicate}
 use lib.Seq.{length-take-le, drop-at, take-at}
-use Rattle.lists.specs.Splice.{splice, splice-at, drop-pad, closed, closed-seam}
-use Rattle.lists.specs.Blocks.{flat, flat-append, flat-split, flat-set, length-flat, length-front}
+use Rattle.lists.specs.Splice.{splice, splice-at, drop-pad, closedUp, closed-up-seam}
+use Rattle.lists.specs.Basics.{flat}
+use Rattle.lists.specs.Blocks.{flat-append, flat-split, flat-set, length-flat, length-front}
 use Rattle.protocol.specs.declared.Row.{Row}
 use Rattle.protocol.specs.declared.Message.{Message}
-use Rattle.protocol.specs.Record.{mostNodes, mostMessages, rowSize, messageSize, rowStart, messageStart, unusedRowWords, unusedMessageWords, State, count, rowWords, messageWords, words, noMessage, withRow, sent, taken, ticketed}
+use Rattle.protocol.specs.Record.{mostNodes, mostMessages, rowSize, messageSize, rowStart, messageStart, unusedMessageWords, State, count, rowWords, messageWords, words, noMessage, withRow, sent, withoutMessage, ticketed}
 use Rattle.layout.specs.Words.{row-size, message-size, header, rowPadding, messagePadding, front, frontOf, words-split, messages-length}
 
 -- A row put at its place.
@@ -23,7 +24,7 @@ pushed w n m = set (splice w (messageStart n) (messageWords m)) 2 (n + 1)
 
 -- Message j of n taken out: the later ones move up, and 0 comes in behind them.
 unfoldable pub removed : List ℕ → ℕ → ℕ → List ℕ
-removed w n j = set (take (messageStart j) w ++ closed messageSize (drop (messageStart j) w) (messageSize * (n - 1 - j))) 2 (n - 1)
+removed w n j = set (take (messageStart j) w ++ closedUp messageSize (drop (messageStart j) w) (messageSize * (n - 1 - j))) 2 (n - 1)
 
 pub put-row-is : (s : State) (t : List ℕ) (i : ℕ) (h : Row) → i < count s → rowPut (words s ++ t) i h ≡ words (withRow s i h) ++ t
 unfolding words
@@ -66,7 +67,7 @@ module _ (s : State) (t : List ℕ) (hn : count s ≤ mostNodes) where
       )
       (simp append-assoc)
 
-  pub remove-is : (j : ℕ) → j < m → m ≤ mostMessages → removed (words s ++ t) m j ≡ words (taken s j) ++ t
+  pub remove-is : (j : ℕ) → j < m → m ≤ mostMessages → removed (words s ++ t) m j ≡ words (withoutMessage s j) ++ t
   unfolding removed
   remove-is j hj hm =
       let a = flat messageWords (take j (s .messages)) in
@@ -84,10 +85,10 @@ module _ (s : State) (t : List ℕ) (hn : count s ≤ mostNodes) where
         drop-at (frontOf s ++ a) (u ++ (b ++ r)) (messageStart j) la,
         take-at (frontOf s ++ a) (u ++ (b ++ r)) (messageStart j) la,
         lb,
-        closed-seam messageSize u b r refl,
+        closed-up-seam messageSize u b r refl,
         append-assoc (frontOf s),
         set-count,
-        words-split (taken s j) t,
+        words-split (withoutMessage s j) t,
         add-one,
         lt,
         flat-append messageWords (take j (s .messages)) (drop (suc j) (s .messages)),

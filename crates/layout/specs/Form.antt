@@ -1,80 +1,81 @@
 -- What 'well formed' says, of a state and of words, in both directions. Assumes nothing.
-use mathlib.Core.Path.{_≡_, refl, sym, _∙_, ap, subst}
+use mathlib.Core.Path.{_≡_, sym}
 use mathlib.Core.Logic.{_⊎_, inl, inr, _≢_}
-use mathlib.Core.Bool.{Bool, true, false, _&&_}
-use mathlib.Core.List.{List, [], _∷_, _++_, map}
-use Prim.Native.Nat.{ℕ, zero, suc, _+_, _-_, _*_, _≤_, _<_}
+use mathlib.Core.Bool.{true}
+use mathlib.Core.List.{List, _++_}
+use Prim.Native.Nat.{ℕ, zero, suc, _≤_, _<_}
 use native.Mathlib.Decide.{decLe, ℕ-discrete}
 use native.Mathlib.Omega.{arith}
-use lib.Dec.{T, leb, ltb, eqb}
-use lib.ListN.{length, getD, take, drop, replicate, length-append}
-use Rattle.lists.specs.Choice.{if_then_else_}
-use Rattle.lists.specs.Members.{Mem, mem-at}
-use Rattle.lists.specs.Tests.{and-left, and-right, and-both, Says, says-and, says-or, says-if, says-so, says-le, says-lt, says-eq, says-as, every, says-every, distinct, Distinct, says-distinct, true-T}
+use lib.Dec.{T, eqb}
+use lib.ListN.{length, getD, drop, replicate, length-append}
+use Rattle.lists.specs.Basics.{Mem, every}
+use Rattle.lists.specs.Members.{mem-at}
+use Rattle.lists.specs.Tests.{Says, says-and, says-or, says-if, says-so, says-le, says-lt, says-eq, says-as, says-every, Distinct, says-distinct, true-T}
 use Rattle.protocol.specs.declared.Row.{Row}
 use Rattle.protocol.specs.declared.Message.{Message}
-use Rattle.protocol.specs.Record.{form, mostNodes, mostMessages, rowSize, messageSize, recordSize, unusedRowWords, unusedMessageWords, none, State, count, countIn, messagesIn, row, read, words, outside}
+use Rattle.protocol.specs.Names.{INSIDE, JOINING, LEAVING, OUTSIDE}
+use Rattle.protocol.specs.Record.{form, mostNodes, mostMessages, recordSize, unusedRowWords, unusedMessageWords, none, State, count, countIn, messagesIn, row, read, words, outside}
 use Rattle.protocol.specs.WellFormed.{pointersOk, lockOk, flagOk, rowOk, namesNode, aOk, bOk, hopsOk, messageOk, identifiers, formed, headerOk, unusedRows, unusedMessages, unusedOk, wellFormed}
 use Rattle.layout.specs.Words.{Tidy, read-words, words-read, count-read, messages-read, form-read, unused-rows-read, unused-messages-read, length-words, count-of-read, messages-of-read}
 
 -- a row, in a ring of n hubs
 pub record RowForm (n : ℕ) (h : Row) : Type 0 where
-  pub state : h .state ≤ 4
+  pub state : h .state ≤ LEAVING
   pub lock : h .lock ≤ 1
-  pub unlinked : h .state ≤ 1 → (h .pred ≡ none) × (h .succ ≡ none)
-  pub linked : 2 ≤ h .state → (h .pred < n) × (h .succ < n)
-  pub out : h .state ≡ 0 → h .lock ≡ 0
-  pub taken : h .state ≢ 0 → h .state ≢ 2 → h .lock ≡ 1
-  pub flag : ((h .flag ≡ 0) × (h .oldpred ≡ none)) ⊎ ((h .flag ≡ 1) × (h .state ≡ 2) × (h .lock ≡ 1) × (h .oldpred < n))
+  pub unlinked : h .state ≤ JOINING → (h .pred ≡ none) × (h .succ ≡ none)
+  pub linked : INSIDE ≤ h .state → (h .pred < n) × (h .succ < n)
+  pub out : h .state ≡ OUTSIDE → h .lock ≡ 0
+  pub locked : h .state ≢ OUTSIDE → h .state ≢ INSIDE → h .lock ≡ 1
+  pub flag : ((h .flag ≡ 0) × (h .oldpred ≡ none)) ⊎ ((h .flag ≡ 1) × (h .state ≡ INSIDE) × (h .lock ≡ 1) × (h .oldpred < n))
 
 -- the three tests of a row, each with what it says
 abbrev Pointers : ℕ → Row → Type 0
-Pointers n h = (h .state < 2 → (h .pred ≡ none) × (h .succ ≡ none)) × (¬ (h .state < 2) → ((h .state < 5) × (h .pred < n)) × (h .succ < n))
+Pointers n h = (h .state < INSIDE → (h .pred ≡ none) × (h .succ ≡ none)) × (¬ (h .state < INSIDE) → ((h .state ≤ LEAVING) × (h .pred < n)) × (h .succ < n))
 
 says-pointers : (n : ℕ) (h : Row) → Says (pointersOk n h) (Pointers n h)
 unfolding pointersOk
 says-pointers n h =
-    says-if (says-lt (h .state) 2) (says-and (says-eq (h .pred) none) (says-eq (h .succ) none))
-    (says-and (says-and (says-lt (h .state) 5) (says-lt (h .pred) n)) (says-lt (h .succ) n))
+    says-if (says-lt (h .state) INSIDE) (says-and (says-eq (h .pred) none) (says-eq (h .succ) none))
+    (says-and (says-and (says-le (h .state) LEAVING) (says-lt (h .pred) n)) (says-lt (h .succ) n))
 
 abbrev Lock : Row → Type 0
-Lock h = (h .state ≡ 2 → h .lock < 2) × (¬ (h .state ≡ 2) → (h .state ≡ 0 → h .lock ≡ 0) × (¬ (h .state ≡ 0) → h .lock ≡ 1))
+Lock h = (h .state ≡ INSIDE → h .lock < 2) × (¬ (h .state ≡ INSIDE) → (h .state ≡ OUTSIDE → h .lock ≡ 0) × (¬ (h .state ≡ OUTSIDE) → h .lock ≡ 1))
 
 says-lock : (h : Row) → Says (lockOk h) (Lock h)
 unfolding lockOk
 says-lock h =
-    says-if (says-eq (h .state) 2) (says-lt (h .lock) 2) (says-if (says-eq (h .state) 0) (says-eq (h .lock) 0) (says-eq (h .lock) 1))
+    says-if (says-eq (h .state) INSIDE) (says-lt (h .lock) 2) (says-if (says-eq (h .state) OUTSIDE) (says-eq (h .lock) 0) (says-eq (h .lock) 1))
 
 abbrev Flag : ℕ → Row → Type 0
-Flag n h = (h .flag ≡ 0 → h .oldpred ≡ none) × (¬ (h .flag ≡ 0) → (((h .flag ≡ 1) × (h .state ≡ 2)) × (h .lock ≡ 1)) × (h .oldpred < n))
+Flag n h = (h .flag ≡ 0 → h .oldpred ≡ none) × (¬ (h .flag ≡ 0) → (((h .flag ≡ 1) × (h .state ≡ INSIDE)) × (h .lock ≡ 1)) × (h .oldpred < n))
 
 says-flag : (n : ℕ) (h : Row) → Says (flagOk n h) (Flag n h)
 unfolding flagOk
 says-flag n h =
     says-if (says-eq (h .flag) 0) (says-eq (h .oldpred) none)
-    (says-and (says-and (says-and (says-eq (h .flag) 1) (says-eq (h .state) 2)) (says-eq (h .lock) 1)) (says-lt (h .oldpred) n))
+    (says-and (says-and (says-and (says-eq (h .flag) 1) (says-eq (h .state) INSIDE)) (says-eq (h .lock) 1)) (says-lt (h .oldpred) n))
 
 row-form : (n : ℕ) (h : Row) → (Pointers n h × Lock h) × Flag n h → RowForm n h
 row-form n h k = record {
-  state = states (decLe 2 (h .state));
-  lock = locks (ℕ-discrete (h .state) 2) (ℕ-discrete (h .state) 0);
+  state = states (decLe INSIDE (h .state));
+  lock = locks (ℕ-discrete (h .state) INSIDE) (ℕ-discrete (h .state) OUTSIDE);
   unlinked = λ l. k .0 .0 .0 (omega arith);
   linked = λ l. let b = k .0 .0 .1 (λ z. omega arith) in (b .0 .1, b .1);
   out = λ e. k .0 .1 .1 (λ z. omega arith) .0 e;
-  taken = λ a b. k .0 .1 .1 b .1 a;
+  locked = λ a b. k .0 .1 .1 b .1 a;
   flag = flags (ℕ-discrete (h .flag) 0);
 }
   where
-    states : Dec (2 ≤ h .state) → h .state ≤ 4
+    states : Dec (INSIDE ≤ h .state) → h .state ≤ LEAVING
     states (yes l) = omega (arith, k .0 .0 .1 (λ z. omega arith) .0 .0)
     states (no l) = omega arith
 
-    locks : Dec (h .state ≡ 2) → Dec (h .state ≡ 0) → h .lock ≤ 1
+    locks : Dec (h .state ≡ INSIDE) → Dec (h .state ≡ OUTSIDE) → h .lock ≤ 1
     locks (yes e) _ = omega (arith, k .0 .1 .0 e)
     locks (no e) (yes f) = omega (arith, k .0 .1 .1 e .0 f)
     locks (no e) (no f) = omega (arith, k .0 .1 .1 e .1 f)
 
-    flags : Dec (h .flag ≡ 0) → ((h .flag ≡ 0) × (h .oldpred ≡ none)) ⊎ ((h .flag ≡ 1) × (h .state ≡ 2) × (h .lock ≡ 1) × (h .oldpred < n))
+    flags : Dec (h .flag ≡ 0) → ((h .flag ≡ 0) × (h .oldpred ≡ none)) ⊎ ((h .flag ≡ 1) × (h .state ≡ INSIDE) × (h .lock ≡ 1) × (h .oldpred < n))
     flags (yes e) = inl (e, k .1 .0 e)
     flags (no e) = let f = k .1 .1 e in inr (f .0 .0 .0, f .0 .0 .1, f .0 .1, f .1)
 
@@ -82,17 +83,17 @@ form-row : (n : ℕ) (h : Row) → RowForm n h → (Pointers n h × Lock h) × F
 form-row n h r = (
   (
     ((λ l. r .unlinked (omega arith)), λ l. let b = r .linked (omega arith) in ((omega (arith, r .state), b .0), b .1)),
-    ((λ e. omega (arith, r .lock)), λ e. (r .out, λ f. r .taken f e)),
+    ((λ e. omega (arith, r .lock)), λ e. (r .out, λ f. r .locked f e)),
   ),
   ((λ e. down e (r .flag)), λ e. up e (r .flag)),
 )
   where
-    down : h .flag ≡ 0 → ((h .flag ≡ 0) × (h .oldpred ≡ none)) ⊎ ((h .flag ≡ 1) × (h .state ≡ 2) × (h .lock ≡ 1) × (h .oldpred < n)) → h .oldpred ≡ none
+    down : h .flag ≡ 0 → ((h .flag ≡ 0) × (h .oldpred ≡ none)) ⊎ ((h .flag ≡ 1) × (h .state ≡ INSIDE) × (h .lock ≡ 1) × (h .oldpred < n)) → h .oldpred ≡ none
     down e (inl x) = x .1
     down e (inr x) = absurd (omega (arith, x .0))
 
-    up : ¬ (h .flag ≡ 0) → ((h .flag ≡ 0) × (h .oldpred ≡ none)) ⊎ ((h .flag ≡ 1) × (h .state ≡ 2) × (h .lock ≡ 1) × (h .oldpred < n))
-        → (((h .flag ≡ 1) × (h .state ≡ 2)) × (h .lock ≡ 1)) × (h .oldpred < n)
+    up : ¬ (h .flag ≡ 0) → ((h .flag ≡ 0) × (h .oldpred ≡ none)) ⊎ ((h .flag ≡ 1) × (h .state ≡ INSIDE) × (h .lock ≡ 1) × (h .oldpred < n))
+        → (((h .flag ≡ 1) × (h .state ≡ INSIDE)) × (h .lock ≡ 1)) × (h .oldpred < n)
     up e (inl x) = absurd (e (x .0))
     up e (inr x) = (((x .0, x .1), x .2), x .3)
 
@@ -178,6 +179,12 @@ unfolding formed
 says-formed s =
     says-and (says-and (says-distinct (identifiers s)) (says-every (rowOk (count s)) (RowForm (count s)) (says-row (count s)) (s .rows)))
     (says-every (messageOk (count s) (s .asked)) (MessageForm (count s) (s .asked)) (says-message (count s) (s .asked)) (s .messages))
+
+-- The form of a state of so many rows and messages that passes the test.
+pub tested-form : (s : State) → 1 ≤ count s → count s ≤ mostNodes → length (s .messages) ≤ mostMessages → T (formed s) → Form s
+tested-form s some few short t =
+    let k = says-formed s .to t in
+    record { some = some; few = few; short = short; differ = k .0 .0; rows = k .0 .1; messages = k .1 }
 
 abbrev Header : List ℕ → Type 0
 Header w = (((getD w 0 0 ≡ form) × (1 ≤ countIn w)) × (countIn w ≤ mostNodes)) × (messagesIn w ≤ mostMessages)

@@ -2,3 +2,4 @@ pub mod Words
 pub mod Form
 pub mod Edits
 pub mod Questions
+pub mod Bytes

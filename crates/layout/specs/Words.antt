@@ -2,16 +2,16 @@
 use mathlib.Core.Path.{_≡_, refl, ap, sym, _∙_}
 use mathlib.Core.Bool.{_&&_}
 use mathlib.Core.List.{List, [], _∷_, _++_, append-assoc, append-nil}
-use Prim.Native.Nat.{ℕ, suc, zero, _+_, _-_, _*_, _≤_, _<_}
+use Prim.Native.Nat.{ℕ, suc, zero, _+_, _*_, _≤_, _<_}
 use native.Mathlib.Nat.{add-assoc, mul-zero, mul-suc}
 use native.Mathlib.Numerals.{add-one}
 use native.Mathlib.Omega.{arith}
 use lib.Dec.{eqb}
 use lib.ListN.{length, take, drop, getD, replicate, length-append, length-replicate, length-take, length-drop, getD-replicate, take-append-drop, List·getD-eq-default}
-use lib.Seq.{getD-append-add, getD-append-seam, drop-at, take-at, take-length, drop-cons, take-add, drop-drop, ext-getD, getD-take, getD-drop}
-use Rattle.lists.specs.Members.{Mem, mem-at}
-use Rattle.lists.specs.Search.{first}
-use Rattle.lists.specs.Blocks.{table, length-table, getD-table, table-of, flat, flat-append, flat-split, length-flat, length-front}
+use lib.Seq.{getD-append-add, getD-append-seam, drop-at, take-at, take-length, drop-cons, take-add, drop-drop, ext-getD}
+use Rattle.lists.specs.Basics.{Mem, first, table, flat}
+use Rattle.lists.specs.Members.{mem-at}
+use Rattle.lists.specs.Blocks.{length-table, getD-table, table-of, flat-append, flat-split, length-flat, length-front}
 use Rattle.protocol.specs.declared.Row.{Row}
 use Rattle.protocol.specs.declared.Message.{Message}
 use Rattle.protocol.specs.Record.{form, mostNodes, mostMessages, rowSize, messageSize, rowStart, messageStart, recordSize, unusedRowWords, unusedMessageWords, State, count, countIn, messagesIn, askedIn, rowWords, messageWords, words, rowFrom, messageFrom, read, row, message, outside, noMessage}

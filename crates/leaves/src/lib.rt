@@ -5,6 +5,8 @@ use protocol::Message;
 use protocol::Row;
 use protocol::form::NONE;
 use protocol::kinds;
+use protocol::refusals;
+use protocol::states;
 use routing::note;
 ghost use mathlib.Core.Path.{_≡_};
 ghost use Rattle.protocol.specs.Kinds.{leaveReq, leaveRetry, leaveGrant, leavePoint, updateSucc, stopForward, leaveDone};
@@ -15,7 +17,7 @@ pub fn leave_req(h: Row, m: Message) -> Decision
 {
     let s = h.state;
     match s {
-        2..=4 => {
+        states::INSIDE..=states::LEAVING => {
             if h.lock == 1 {
                 return Decision::Send(h, note(kinds::LEAVERETRY, m.to, m.from, 0), Answer::Quiet);
             }
@@ -27,7 +29,7 @@ pub fn leave_req(h: Row, m: Message) -> Decision
                 Answer::Quiet,
             )
         }
-        _ => Decision::Refuse(10),
+        _ => Decision::Refuse(refusals::NOT_EXPECTED),
     }
 }
 
@@ -37,13 +39,13 @@ pub fn leave_retry(h: Row, m: Message) -> Decision
 {
     let s = h.state;
     match s {
-        3 => {
+        states::WANTING_TO_LEAVE => {
             let mut staying = h;
-            staying.state = 2;
+            staying.state = states::INSIDE;
             staying.lock = 0;
             Decision::Reply(staying, Answer::LeaveTurnedAway(m.to))
         }
-        _ => Decision::Refuse(10),
+        _ => Decision::Refuse(refusals::NOT_EXPECTED),
     }
 }
 
@@ -53,16 +55,16 @@ pub fn leave_grant(h: Row, m: Message) -> Decision
 {
     let s = h.state;
     match s {
-        3 => {
+        states::WANTING_TO_LEAVE => {
             let mut leaving = h;
-            leaving.state = 4;
+            leaving.state = states::LEAVING;
             Decision::Send(
                 leaving,
                 note(kinds::LEAVEPOINT, m.to, m.from, h.pred),
                 Answer::Quiet,
             )
         }
-        _ => Decision::Refuse(10),
+        _ => Decision::Refuse(refusals::NOT_EXPECTED),
     }
 }
 
@@ -72,9 +74,9 @@ pub fn leave_point(h: Row, m: Message) -> Decision
 {
     let s = h.state;
     match s {
-        2 => {
+        states::INSIDE => {
             if h.lock != 1 {
-                return Decision::Refuse(10);
+                return Decision::Refuse(refusals::NOT_EXPECTED);
             }
             let mut extended = h;
             extended.pred = m.a;
@@ -84,7 +86,7 @@ pub fn leave_point(h: Row, m: Message) -> Decision
                 Answer::Gone(m.from),
             )
         }
-        _ => Decision::Refuse(10),
+        _ => Decision::Refuse(refusals::NOT_EXPECTED),
     }
 }
 
@@ -94,7 +96,7 @@ pub fn update_succ(h: Row, m: Message) -> Decision
 {
     let s = h.state;
     match s {
-        2 | 3 => {
+        states::INSIDE | states::WANTING_TO_LEAVE => {
             let mut relinked = h;
             relinked.succ = m.from;
             Decision::Send(
@@ -103,7 +105,7 @@ pub fn update_succ(h: Row, m: Message) -> Decision
                 Answer::Quiet,
             )
         }
-        _ => Decision::Refuse(10),
+        _ => Decision::Refuse(refusals::NOT_EXPECTED),
     }
 }
 
@@ -113,9 +115,9 @@ pub fn stop_forward(h: Row, m: Message) -> Decision
 {
     let s = h.state;
     match s {
-        4 => {
+        states::LEAVING => {
             let mut outside = h;
-            outside.state = 0;
+            outside.state = states::OUTSIDE;
             outside.lock = 0;
             outside.pred = NONE;
             outside.succ = NONE;
@@ -126,7 +128,7 @@ pub fn stop_forward(h: Row, m: Message) -> Decision
                 Answer::Left(m.to),
             )
         }
-        _ => Decision::Refuse(10),
+        _ => Decision::Refuse(refusals::NOT_EXPECTED),
     }
 }
 
@@ -136,17 +138,17 @@ pub fn leave_done(h: Row, m: Message) -> Decision
 {
     let s = h.state;
     match s {
-        2 => {
+        states::INSIDE => {
             if h.lock != 1 {
-                return Decision::Refuse(10);
+                return Decision::Refuse(refusals::NOT_EXPECTED);
             }
             if h.flag != 0 {
-                return Decision::Refuse(10);
+                return Decision::Refuse(refusals::NOT_EXPECTED);
             }
             let mut unlocked = h;
             unlocked.lock = 0;
             Decision::Reply(unlocked, Answer::Quiet)
         }
-        _ => Decision::Refuse(10),
+        _ => Decision::Refuse(refusals::NOT_EXPECTED),
     }
 }

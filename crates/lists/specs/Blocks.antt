@@ -7,12 +7,9 @@ use native.Mathlib.Nat.{add-comm, mul-zero, mul-suc, eq-or-lt-of-le, le-of-suc-l
 use native.Mathlib.Numerals.{add-one}
 use native.Mathlib.Omega.{arith}
 use lib.ListN.{length, take, drop, getD, set, length-append, List·getD-append}
-use lib.Seq.{length-take-le, split-at, set-split, getD-at, ext-getD}
-
--- f 0, f 1, .., n of them
-unfoldable pub table : {A : Type 0} → ℕ → (ℕ → A) → List A
-table zero f = []
-table (suc n) f = table n f ++ (f n ∷ [])
+use lib.Seq.{length-take-le, split-at, set-split, getD-at}
+use Rattle.lists.specs.Basics.{table, flat, Mem, All}
+use Rattle.lists.specs.Members.{all-append}
 
 module _ {A : Type 0} where
   pub length-table : (n : ℕ) (f : ℕ → A) → length (table n f) ≡ n
@@ -39,26 +36,26 @@ module _ {A : Type 0} where
       ∙ sym (lib.Seq.take-suc l n d (omega arith))
 
 module _ {A : Type 0} (f : A → List ℕ) where
-  -- the words of each value, one after the other
-  abbrev pub flat : List A → List ℕ
-  flat [] = []
-  flat (x ∷ xs) = f x ++ flat xs
-
-  pub flat-append : (xs ys : List A) → flat (xs ++ ys) ≡ flat xs ++ flat ys
+  pub flat-append : (xs ys : List A) → flat f (xs ++ ys) ≡ flat f xs ++ flat f ys
   flat-append [] ys = refl
-  flat-append (x ∷ xs) ys = ap (λ l. f x ++ l) (flat-append xs ys) ∙ sym (append-assoc (f x) (flat xs) (flat ys))
+  flat-append (x ∷ xs) ys = ap (λ l. f x ++ l) (flat-append xs ys) ∙ sym (append-assoc (f x) (flat f xs) (flat f ys))
 
   module _ (k : ℕ) (size : (x : A) → length (f x) ≡ k) where
-    pub length-flat : (xs : List A) → length (flat xs) ≡ k * length xs
+    pub length-flat : (xs : List A) → length (flat f xs) ≡ k * length xs
     length-flat [] = sym (mul-zero k)
     length-flat (x ∷ xs) = simp (length-append, size, length-flat xs, mul-suc) (add-comm k (k * length xs))
 
-    pub length-front : (xs : List A) (i : ℕ) → i ≤ length xs → length (flat (take i xs)) ≡ k * i
+    pub length-front : (xs : List A) (i : ℕ) → i ≤ length xs → length (flat f (take i xs)) ≡ k * i
     length-front xs i h = length-flat (take i xs) ∙ ap (λ n. k * n) (length-take-le i xs h)
 
   -- the words before value i, its own, and those after
-  pub flat-split : (xs : List A) (i : ℕ) (d : A) → i < length xs → flat xs ≡ flat (take i xs) ++ (f (getD xs i d) ++ flat (drop (suc i) xs))
-  flat-split xs i d h = ap flat (split-at xs i d h) ∙ flat-append (take i xs) (getD xs i d ∷ drop (suc i) xs)
+  pub flat-split : (xs : List A) (i : ℕ) (d : A) → i < length xs → flat f xs ≡ flat f (take i xs) ++ (f (getD xs i d) ++ flat f (drop (suc i) xs))
+  flat-split xs i d h = ap (flat f) (split-at xs i d h) ∙ flat-append (take i xs) (getD xs i d ∷ drop (suc i) xs)
 
-  pub flat-set : (xs : List A) (i : ℕ) (x : A) → i < length xs → flat (set xs i x) ≡ flat (take i xs) ++ (f x ++ flat (drop (suc i) xs))
-  flat-set xs i x h = ap flat (set-split xs i x h) ∙ flat-append (take i xs) (x ∷ drop (suc i) xs)
+  pub flat-set : (xs : List A) (i : ℕ) (x : A) → i < length xs → flat f (set xs i x) ≡ flat f (take i xs) ++ (f x ++ flat f (drop (suc i) xs))
+  flat-set xs i x h = ap (flat f) (set-split xs i x h) ∙ flat-append (take i xs) (x ∷ drop (suc i) xs)
+
+  -- what holds of each word of each value
+  pub all-flat : (P : ℕ → Type 0) (xs : List A) → ((x : A) → Mem x xs → All P (f x)) → All P (flat f xs)
+  all-flat P [] a = tt
+  all-flat P (x ∷ xs) a = all-append P (f x) (flat f xs) (a x (inl refl)) (all-flat P xs (λ y k. a y (inr k)))

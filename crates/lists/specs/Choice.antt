@@ -2,15 +2,7 @@
 use mathlib.Core.Path.{_≡_, ap}
 use mathlib.Core.Bool.{Bool, true, false, not}
 use lib.Dec.{T}
-
-infixr 5 if_then_else_
-unfoldable pub if_then_else_ : {A : Type 0} → Bool → A → A → A
-if true then x else y = x
-if false then x else y = y
-
--- A question: where the answer is no, what stands for the refusal.
-unfoldable pub require : {A : Type 0} → Bool → A → A → A
-require b no-result rest = if b then rest else no-result
+use Rattle.lists.specs.Basics.{if_then_else_, require}
 
 pub on-yes : {A : Type 0} (b : Bool) (x y : A) → b ≡ true → require b x y ≡ y
 unfolding require if_then_else_

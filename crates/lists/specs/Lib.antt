@@ -1,3 +1,5 @@
+pub mod Basics
+pub mod Text
 pub mod Choice
 pub mod Tests
 pub mod Members

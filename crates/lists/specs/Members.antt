@@ -5,14 +5,11 @@ use mathlib.Core.List.{List, [], _∷_, _++_}
 use Prim.Native.Nat.{ℕ, zero, suc, _+_, _≤_, _<_}
 use native.Mathlib.Decide.{ℕ-discrete}
 use native.Mathlib.Omega.{arith}
-use lib.ListN.{length, getD, set}
+use lib.ListN.{length, getD, set, drop, replicate}
 use lib.Seq.{getD-set-same, getD-set-other}
+use Rattle.lists.specs.Basics.{Mem, All, ind, times}
 
 module _ {A : Type 0} where
-  abbrev pub Mem : A → List A → Type 0
-  Mem m [] = ⊥
-  Mem m (x ∷ xs) = (m ≡ x) ⊎ Mem m xs
-
   pub mem-split : (m : A) (s t : List A) → Mem m (s ++ t) → Mem m s ⊎ Mem m t
   mem-split m [] t h = inr h
   mem-split m (x ∷ xs) t (inl e) = inl (inl e)
@@ -42,18 +39,10 @@ module _ {A : Type 0} where
       go (inl h) = mem-left x s (m ∷ t) h
       go (inr h) = mem-right x s (m ∷ t) (inr h)
 
-  abbrev pub All : (A → Type 0) → List A → Type 0
-  All P [] = Unit {0}
-  All P (x ∷ xs) = P x × All P xs
-
   pub all-mem : (P : A → Type 0) (l : List A) → All P l → (x : A) → Mem x l → P x
   all-mem P (y ∷ l) a x (inl e) = subst P (sym e) (a .0)
   all-mem P (y ∷ l) a x (inr h) = all-mem P l (a .1) x h
   all-mem P [] a x h = absurd h
-
--- 1 where the two numbers are one
-pub ind : ℕ → ℕ → ℕ
-ind a h = elim (ℕ-discrete a h) [ yes e ↦ 1 | no e ↦ 0 ]
 
 pub ind-cases : (a h : ℕ) → ((a ≡ h) × (ind a h ≡ 1)) ⊎ ((a ≢ h) × (ind a h ≡ 0))
 unfolding ind
@@ -71,11 +60,6 @@ ind-same a = elim (ind-cases a a) [ inl w ↦ w .1 | inr w ↦ absurd (w .0 refl
 
 pub ind-ne : (a h : ℕ) → a ≢ h → ind a h ≡ 0
 ind-ne a h e = elim (ind-cases a h) [ inl w ↦ absurd (e (w .0)) | inr w ↦ w .1 ]
-
--- how often h stands in a list
-abbrev pub times : List ℕ → ℕ → ℕ
-times [] h = 0
-times (x ∷ xs) h = ind x h + times xs h
 
 -- h is none of them
 abbrev pub Off : List ℕ → ℕ → Type 0
@@ -114,14 +98,24 @@ module _ {A : Type 0} where
   mem-at (x ∷ l) (suc i) d h = inr (mem-at l i d (omega arith))
   mem-at [] i d h = absurd (omega arith)
 
-  -- what holds of every element holds at every place, and the other way round
+  -- what holds at every place holds of every element
   pub all-at : (P : A → Type 0) (l : List A) (d : A) → ((i : ℕ) → i < length l → P (getD l i d)) → All P l
   all-at P [] d f = tt
   all-at P (x ∷ l) d f = (f 0 (omega arith), all-at P l d (λ i h. f (suc i) (omega arith)))
 
-  pub all-of : (P : A → Type 0) (l : List A) → ((x : A) → Mem x l → P x) → All P l
-  all-of P [] f = tt
-  all-of P (x ∷ l) f = (f x (inl refl), all-of P l (λ y k. f y (inr k)))
+  -- of a list behind its first elements, of two lists, and of one value repeated
+  pub all-drop : (P : A → Type 0) (n : ℕ) (l : List A) → All P l → All P (drop n l)
+  all-drop P zero l a = a
+  all-drop P (suc n) [] a = a
+  all-drop P (suc n) (x ∷ l) a = all-drop P n l (a .1)
+
+  pub all-append : (P : A → Type 0) (l m : List A) → All P l → All P m → All P (l ++ m)
+  all-append P [] m a b = b
+  all-append P (x ∷ l) m a b = (a .0, all-append P l m (a .1) b)
+
+  pub all-replicate : (P : A → Type 0) (n : ℕ) (x : A) → P x → All P (replicate n x)
+  all-replicate P zero x p = tt
+  all-replicate P (suc n) x p = (p, all-replicate P n x p)
 
   -- at a place that is there the default does not matter
   pub getD-any : (l : List A) (i : ℕ) (d e : A) → i < length l → getD l i d ≡ getD l i e

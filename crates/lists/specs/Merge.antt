@@ -10,10 +10,10 @@ use lib.Bits.{bitOr, or-add-and, and-le-l, and-le-r}
 use lib.Dec.{T, eqb}
 use lib.ListN.{length, getD}
 use lib.Seq.{take-length}
-use Rattle.lists.specs.Choice.{if_then_else_}
-use Rattle.lists.specs.Members.{Mem, mem-split, mem-left, mem-right}
-use Rattle.lists.specs.Tests.{and-true, says-and, says-as, says-eq, says-not, says-same, says-so, every, says-every, distinct, Distinct, says-distinct}
-use Rattle.lists.specs.Blocks.{table, table-of}
+use Rattle.lists.specs.Basics.{if_then_else_, Mem, every, distinct, table}
+use Rattle.lists.specs.Members.{mem-split, mem-left, mem-right}
+use Rattle.lists.specs.Tests.{and-true, says-and, says-as, says-eq, says-not, says-same, says-so, says-every, Distinct, says-distinct}
+use Rattle.lists.specs.Blocks.{table-of}
 
 -- two numbers merge to 0 when both are 0
 or-parts : (a b : ℕ) → bitOr a b ≡ 0 → (a ≡ 0) × (b ≡ 0)

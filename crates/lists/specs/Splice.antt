@@ -1,11 +1,11 @@
 -- Parts of a list changed in place: what an edit through a lent part does to the whole. Assumes nothing.
 use mathlib.Core.Path.{_≡_, refl, ap, sym, _∙_}
-use mathlib.Core.List.{List, [], _∷_, _++_, append-assoc, append-nil}
-use Prim.Native.Nat.{ℕ, suc, zero, _+_, _-_, _*_, _≤_, _<_}
+use mathlib.Core.List.{List, [], _++_, append-assoc, append-nil}
+use Prim.Native.Nat.{ℕ, suc, _+_, _-_, _≤_, _<_}
 use native.Mathlib.Nat.{zero-add, add-comm}
 use native.Mathlib.Omega.{arith}
-use lib.ListN.{length, take, drop, getD, set, replicate, length-append, length-take, length-drop, length-set, drop-of-length-le, replicate-append-replicate, length-replicate}
-use lib.Seq.{sets, sets-eq, take-all, drop-drop, length-take-le, drop-length, take-take, getD-append-add, getD-drop, drop-cons, set-at, take-suc, append-snoc, drop-at, take-at, take-append-seam, drop-append-seam, drop-append-add}
+use lib.ListN.{length, take, drop, getD, set, replicate, length-append, length-take, length-drop, drop-of-length-le, replicate-append-replicate, length-replicate}
+use lib.Seq.{sets, sets-eq, take-all, drop-drop, getD-append-add, getD-drop, drop-cons, set-at, take-suc, append-snoc, drop-at, take-append-seam, drop-append-seam, drop-append-add}
 use native.Mathlib.Numerals.{add-one}
 
 -- w with vs in the place of the elements from at on
@@ -56,8 +56,8 @@ module _ (g : ℕ) (p : List ℕ) (k : ℕ) (h : k + g < length p) where
       (sym (append-snoc (take k (drop g p)) (getD p (k + g) 0) (drop (suc k) p)))
 
 -- g elements at the front taken out, the n after them moved up, and g zeros behind those
-unfoldable pub closed : ℕ → List ℕ → ℕ → List ℕ
-closed g p n = splice (shifted g p n) n (replicate g 0)
+unfoldable pub closedUp : ℕ → List ℕ → ℕ → List ℕ
+closedUp g p n = splice (shifted g p n) n (replicate g 0)
 
 -- a part from a on is lent, and comes back as y
 pub part-from : (w : List ℕ) (a : ℕ) → take (length w - a) (drop a w) ≡ drop a w
@@ -78,9 +78,9 @@ drop-pad k n t h =
     ∙ ap (drop k) (append-assoc (replicate k 0) (replicate (n - k) 0) t)
     ∙ drop-at (replicate k 0) (replicate (n - k) 0 ++ t) k (length-replicate k 0)
 
-pub closed-seam : (g : ℕ) (x b r : List ℕ) → length x ≡ g → closed g (x ++ (b ++ r)) (length b) ≡ b ++ (replicate g 0 ++ r)
-unfolding closed shifted
-closed-seam g x b r e =
+pub closed-up-seam : (g : ℕ) (x b r : List ℕ) → length x ≡ g → closedUp g (x ++ (b ++ r)) (length b) ≡ b ++ (replicate g 0 ++ r)
+unfolding closedUp shifted
+closed-up-seam g x b r e =
     rw (
       drop-at x (b ++ r) g e,
       take-append-seam,

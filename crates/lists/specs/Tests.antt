@@ -1,12 +1,12 @@
 -- Tests, and what each of them says. Assumes nothing.
-use mathlib.Core.Path.{_≡_, refl, sym, subst, ap}
-use mathlib.Core.Logic.{_⊎_, inl, inr, _≢_}
+use mathlib.Core.Path.{_≡_, refl, sym, subst}
+use mathlib.Core.Logic.{_⊎_, inl, inr}
 use mathlib.Core.Bool.{Bool, true, false, not, _&&_, _||_}
-use mathlib.Core.List.{List, [], _∷_, _++_}
-use Prim.Native.Nat.{ℕ, _≤_, _<_}
+use mathlib.Core.List.{List, [], _∷_}
+use Prim.Native.Nat.{ℕ, _+_, _≤_, _<_}
+use native.Mathlib.Omega.{arith}
 use lib.Dec.{T, leb, ltb, eqb, leb→le, le→leb, ltb→lt, lt→ltb, eqb→eq, eqb-refl, T-not, not-T}
-use Rattle.lists.specs.Choice.{if_then_else_}
-use Rattle.lists.specs.Members.{Mem, mem-split}
+use Rattle.lists.specs.Basics.{if_then_else_, Mem, every, distinct}
 
 pub and-left : (a b : Bool) → T (a && b) → T a
 and-left true b t = tt
@@ -39,10 +39,6 @@ T-true false t = absurd t
 
 pub true-T : (b : Bool) → b ≡ true → T b
 true-T b e = subst T (sym e) tt
-
-pub T-false : (b : Bool) → T (not b) → b ≡ false
-T-false true t = absurd t
-T-false false t = refl
 
 -- a test and what it says
 pub record Says (b : Bool) (P : Type 0) : Type 0 where
@@ -101,11 +97,6 @@ says-same {a} {b} {P} p q = go a b (λ t. q .fro (p .to t)) (λ t. p .fro (q .to
     go false true f g = absurd (g tt)
     go false false f g = refl
 
--- every element passes
-unfoldable pub every : {A : Type 0} → (A → Bool) → List A → Bool
-every f [] = true
-every f (x ∷ l) = f x && every f l
-
 pub says-every : {A : Type 0} (f : A → Bool) (P : A → Type 0) → ((x : A) → Says (f x) (P x)) → (l : List A) → Says (every f l) ((x : A) → Mem x l → P x)
 unfolding every
 says-every f P s [] = record { to = λ t x k. absurd k; fro = λ g. tt }
@@ -115,10 +106,6 @@ says-every f P s (x ∷ l) = record {
 }
 
 -- no element twice
-unfoldable pub distinct : List ℕ → Bool
-distinct [] = true
-distinct (x ∷ l) = every (λ y. not (eqb x y)) l && distinct l
-
 unfoldable pub Distinct : List ℕ → Type 0
 Distinct [] = Unit {0}
 Distinct (x ∷ l) = ((y : ℕ) → Mem y l → ¬ (x ≡ y)) × Distinct l
@@ -127,3 +114,14 @@ pub says-distinct : (l : List ℕ) → Says (distinct l) (Distinct l)
 unfolding distinct Distinct
 says-distinct [] = record { to = λ t. tt; fro = λ t. tt }
 says-distinct (x ∷ l) = says-and (says-every (λ y. not (eqb x y)) (λ y. ¬ (x ≡ y)) (λ y. says-not (says-eq x y)) l) (says-distinct l)
+
+-- the upper end of a range as it is compiled, where it is asked whether m is below the number after n
+pub before-next : (m n : ℕ) → m < n + 1 → leb m n ≡ true
+before-next m n l = T-true (leb m n) (le→leb m n (omega arith))
+
+pub not-before-next : (m n : ℕ) → n + 1 ≤ m → leb m n ≡ false
+not-before-next m n l = go (leb m n) (leb→le m n)
+  where
+    go : (b : Bool) → (T b → m ≤ n) → b ≡ false
+    go true f = absurd (omega (arith, f tt))
+    go false f = refl

@@ -2,7 +2,7 @@
 // counting that the crates above cite are in specs/.)
 ghost use mathlib.Core.Path.{_≡_};
 ghost use mathlib.Core.Bool.{_&&_, _||_, not};
-ghost use Rattle.lists.specs.Choice.{if_then_else_};
+ghost use Rattle.lists.specs.Basics.{if_then_else_};
 
 pub fn both(a: bool, b: bool) -> bool
     ensures { λ r. ⌜ r ≡ (a && b) ⌝ }

@@ -1,15 +1,18 @@
 -- Document 01, 'Reading the ring': the calls as a C program makes them, where 'the words travel as bytes'. Bytes are numbers below 256.
 use mathlib.Core.List.{List, [], _∷_, _++_}
-use Prim.Native.Nat.{ℕ, _+_, _*_, _/_, _%_}
+use Prim.Native.Nat.{ℕ, _+_, _*_, _/_, _%_, _<_}
 use lib.Dec.{leb}
 use lib.ListN.{length, drop}
-use Rattle.lists.specs.Choice.{require}
-use Rattle.lists.specs.Blocks.{flat}
+use Rattle.lists.specs.Basics.{require, flat}
 use Rattle.protocol.specs.declared.Outcome.{Outcome}
 use Rattle.protocol.specs.declared.Outcome.the-variants.{Refused, Answered}
 use Rattle.protocol.specs.declared.Ownership.{Ownership}
+use Rattle.protocol.specs.Names.{OUTPUT-SHORT}
 use Rattle.protocol.specs.Answers.{refusal, outcomeWords, ownerRefusal, ownerWords}
 use Rattle.protocol.specs.Calls.{Called, stepCall, freshCall, ownerCall}
+
+abbrev pub Byte : ℕ → Type 0
+Byte x = x < 256
 
 -- 'four a word, lowest first': the word that four bytes stand for, and the way back
 abbrev pub wordOf : ℕ → ℕ → ℕ → ℕ → ℕ
@@ -55,7 +58,7 @@ carried bytes out called = record {
 -- The step. 'a lent output, which if too short is 17, asked first': five words are 20 bytes.
 unfoldable pub stepBytes : List ℕ → ℕ → ℕ → ℕ → List ℕ → CalledBytes
 stepBytes bytes operation x y out =
-    require (leb 20 (length out)) (record { code = 17; bytes = bytes; output = out })
+    require (leb 20 (length out)) (record { code = OUTPUT-SHORT; bytes = bytes; output = out })
     (carried bytes out (stepCall (wordsOf bytes) operation x y))
 
 -- What the owner query leaves: the number returned, and the lent output ('for owner one, the hub').
@@ -68,16 +71,16 @@ told out owner = record { code = ownerRefusal owner; output = over out (ownerWor
 
 unfoldable pub ownerBytes : List ℕ → ℕ → List ℕ → OwnerBytes
 ownerBytes bytes number out =
-    require (leb 4 (length out)) (record { code = 17; output = out }) (told out (ownerCall (wordsOf bytes) number))
+    require (leb 4 (length out)) (record { code = OUTPUT-SHORT; output = out }) (told out (ownerCall (wordsOf bytes) number))
 
 -- What a fresh call leaves: the number returned, and the bytes lent for the words. It has no output, since its answer is quiet.
 pub record FreshBytes : Type 0 where
   pub code : ℕ
   pub bytes : List ℕ
 
-unfoldable pub founded : List ℕ → Called → FreshBytes
-founded bytes called = record { code = refusal (called .outcome); bytes = bytesAfter bytes (called .slice) (called .outcome) }
+unfoldable pub freshCarried : List ℕ → Called → FreshBytes
+freshCarried bytes called = record { code = refusal (called .outcome); bytes = bytesAfter bytes (called .slice) (called .outcome) }
 
 -- The identifiers travel as bytes too.
 unfoldable pub freshBytes : List ℕ → List ℕ → FreshBytes
-freshBytes bytes identifiers = founded bytes (freshCall (wordsOf bytes) (wordsOf identifiers))
+freshBytes bytes identifiers = freshCarried bytes (freshCall (wordsOf bytes) (wordsOf identifiers))

@@ -5,9 +5,7 @@ use mathlib.Core.List.{List, [], _∷_, _++_}
 use Prim.Native.Nat.{ℕ, zero, suc}
 use lib.Dec.{leb, ltb, eqb}
 use lib.ListN.{length, take, drop}
-use Rattle.lists.specs.Choice.{if_then_else_, require}
-use Rattle.lists.specs.Search.{first}
-use Rattle.lists.specs.Tests.{distinct}
+use Rattle.lists.specs.Basics.{if_then_else_, require, first, distinct}
 use Rattle.protocol.specs.declared.Answer.the-variants.{Quiet}
 use Rattle.protocol.specs.declared.Outcome.{Outcome}
 use Rattle.protocol.specs.declared.Outcome.the-variants.{Refused, Answered}
@@ -15,12 +13,14 @@ use Rattle.protocol.specs.declared.Ownership.{Ownership}
 use Rattle.protocol.specs.declared.Ownership.the-variants.{Refused as OwnerRefused, HeldBy}
 use Rattle.protocol.specs.declared.Roll.{Roll}
 use Rattle.protocol.specs.declared.Roll.the-variants.{Refused as RollRefused, Length}
+use Rattle.protocol.specs.Names.{IDENTIFIER-COUNT, IDENTIFIER-TWICE, NOT-IN-RING, NOT-WELL-FORMED, NO-HOLDER, NO-HUB, NO-WAY-ROUND, OUTPUT-SHORT, RECORD-SHORT}
 use Rattle.protocol.specs.Record.{mostNodes, rowSize, rowStart, recordSize, none, State, count, countIn, row, read, words}
 use Rattle.protocol.specs.WellFormed.{wellFormed}
 use Rattle.protocol.specs.Fresh.{fresh}
 use Rattle.protocol.specs.Routing.{inRing}
 use Rattle.protocol.specs.Step.{Result, refused, accepted, step}
 use Rattle.protocol.specs.Membership.{holds}
+use Rattle.protocol.specs.Answers.{rollRefusal, rollWords}
 
 -- 'are there 1,988 words? 1.'
 unfoldable pub long : List ℕ → Bool
@@ -28,7 +28,7 @@ long w = leb recordSize (length w)
 
 -- Every call but fresh: questions 1 and 2. `no-result k` is the refusal with number k.
 unfoldable pub onRecord : {A : Type 0} → List ℕ → (ℕ → A) → A → A
-onRecord w no-result rest = require (long w) (no-result 1) (require (wellFormed w) (no-result 2) rest)
+onRecord w no-result rest = require (long w) (no-result RECORD-SHORT) (require (wellFormed w) (no-result NOT-WELL-FORMED) rest)
 
 -- What a step or a fresh call leaves: its outcome, and the lent slice.
 pub record Called : Type 0 where
@@ -49,9 +49,9 @@ stepCall w operation x y = onRecord w (turnedDown w) (written w (step (read w) o
 -- Fresh: '1 to 64 identifiers? 13. All different? 14.' It answers quiet.
 unfoldable pub freshCall : List ℕ → List ℕ → Called
 freshCall w ids =
-    require (long w) (turnedDown w 1)
-    (require (leb 1 (length ids) && leb (length ids) mostNodes) (turnedDown w 13)
-    (require (distinct ids) (turnedDown w 14)
+    require (long w) (turnedDown w RECORD-SHORT)
+    (require (leb 1 (length ids) && leb (length ids) mostNodes) (turnedDown w IDENTIFIER-COUNT)
+    (require (distinct ids) (turnedDown w IDENTIFIER-TWICE)
     (written w (accepted Quiet (fresh ids)))))
 
 -- Owner query: 'does some hub hold the number? 15 (the lowest hub number if several).'
@@ -61,7 +61,7 @@ lowestHolder s v = first (λ hub. holds s hub v) (count s)
 unfoldable pub ownerCall : List ℕ → ℕ → Ownership
 ownerCall w v =
     onRecord w OwnerRefused
-    (require (ltb (lowestHolder (read w) v) (countIn w)) (OwnerRefused 15)
+    (require (ltb (lowestHolder (read w) v) (countIn w)) (OwnerRefused NO-HOLDER)
     (HeldBy (lowestHolder (read w) v)))
 
 -- 'The hub row is handed out as the seven words inside the caller's record'; 'on a no to 1, 2 or hub below n it hands out an empty part'.
@@ -71,18 +71,18 @@ rowCall w hub = onRecord w (λ k. []) (require (ltb hub (countIn w)) [] (take ro
 -- The hubs passed by following succ, where that comes back to its start.
 pub data Traversal : Type 0 where
   lost : Traversal
-  closed : List ℕ → Traversal
+  complete : List ℕ → Traversal
 
 abbrev pub followedBy : ℕ → Traversal → Traversal
 followedBy hub lost = lost
-followedBy hub (closed l) = closed (hub ∷ l)
+followedBy hub (complete l) = complete (hub ∷ l)
 
 -- 'A roll call from a hub is that hub followed by the roll of its successor, until the start returns', of at most so many hubs.
 -- 'Does following succ come back to the start after at most n hubs (a succ of none is a no)?'
 unfoldable pub roll : State → ℕ → ℕ → ℕ → Traversal
 roll s start zero hub = lost
 roll s start (suc left) hub =
-    if eqb (row s hub .succ) start then closed (hub ∷ [])
+    if eqb (row s hub .succ) start then complete (hub ∷ [])
     else if eqb (row s hub .succ) none then lost
     else followedBy hub (roll s start left (row s hub .succ))
 
@@ -96,15 +96,27 @@ unrolled out k = record { outcome = RollRefused k; output = out }
 
 -- 'its length, at most n, is returned and output words past it keep their content'; 'Has the output that many words? 17.'
 unfoldable pub rollWritten : List ℕ → Traversal → Rolled
-rollWritten out lost = unrolled out 16
-rollWritten out (closed l) =
-    require (leb (length l) (length out)) (unrolled out 17)
+rollWritten out lost = unrolled out NO-WAY-ROUND
+rollWritten out (complete l) =
+    require (leb (length l) (length out)) (unrolled out OUTPUT-SHORT)
     (record { outcome = Length (length l); output = l ++ drop (length l) out })
 
 -- 'hub below n? 4. State 2 to 4? 5.', then 16 and 17
 unfoldable pub rollCall : List ℕ → ℕ → List ℕ → Rolled
 rollCall w hub out =
     onRecord w (unrolled out)
-    (require (ltb hub (countIn w)) (unrolled out 4)
-    (require (inRing (row (read w) hub)) (unrolled out 5)
+    (require (ltb hub (countIn w)) (unrolled out NO-HUB)
+    (require (inRing (row (read w) hub)) (unrolled out NOT-IN-RING)
     (rollWritten out (roll (read w) hub (countIn w) hub))))
+
+-- The same by numbers: the refusal, 0 for none; what it says, which is the length; and the output.
+pub record RolledNumbers : Type 0 where
+  pub code : ℕ
+  pub said : List ℕ
+  pub output : List ℕ
+
+abbrev pub numbered : List ℕ → Roll → RolledNumbers
+numbered out r = record { code = rollRefusal r; said = rollWords r; output = out }
+
+abbrev pub rollNumbers : List ℕ → ℕ → List ℕ → RolledNumbers
+rollNumbers w hub out = numbered (rollCall w hub out .output) (rollCall w hub out .outcome)

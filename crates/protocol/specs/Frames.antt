@@ -5,15 +5,13 @@ use mathlib.Core.List.{List, [], _∷_, _++_}
 use Prim.Native.Nat.{ℕ, _+_, _-_, _*_, _/_, _%_}
 use lib.Dec.{leb, ltb, eqb}
 use lib.ListN.{length, getD, replicate}
-use Rattle.lists.specs.Choice.{if_then_else_, require}
-use Rattle.lists.specs.Tests.{every}
-use Rattle.lists.specs.Blocks.{table}
-use Rattle.protocol.specs.declared.Answer.{Answer}
+use Rattle.lists.specs.Basics.{if_then_else_, require, every, table}
 use Rattle.protocol.specs.declared.Outcome.{Outcome}
 use Rattle.protocol.specs.declared.Outcome.the-variants.{Refused, Answered}
 use Rattle.protocol.specs.declared.Frame.{Frame}
 use Rattle.protocol.specs.declared.Frame.the-variants.{Founding, Command, Unreadable}
 use Rattle.protocol.specs.declared.Line.{Line}
+use Rattle.protocol.specs.Names.{UNREADABLE}
 use Rattle.protocol.specs.Answers.{answerWords}
 use Rattle.protocol.specs.Calls.{Called, freshCall, stepCall}
 
@@ -103,7 +101,7 @@ answering c = record { printed = line (outcomeText (c .outcome)); slice = c .sli
 unfoldable pub frameCall : List ℕ → List ℕ → Frame → Printed
 frameCall w l (Founding n) = answering (freshCall w (identifiers l n))
 frameCall w l (Command operation x y) = answering (stepCall w operation x y)
-frameCall w l Unreadable = record { printed = line (refusalText 255); slice = w }
+frameCall w l Unreadable = record { printed = line (refusalText UNREADABLE); slice = w }
 
 unfoldable pub lineCall : List ℕ → List ℕ → Printed
 lineCall w l = frameCall w l (frame l)

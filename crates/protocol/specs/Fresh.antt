@@ -3,6 +3,7 @@ use mathlib.Core.List.{List, [], map}
 use Prim.Native.Nat.{ℕ}
 use lib.ListN.{getD, set}
 use Rattle.protocol.specs.declared.Row.{Row}
+use Rattle.protocol.specs.Names.{INSIDE}
 use Rattle.protocol.specs.Record.{none, State, outside}
 
 -- The hub that founds the ring: 'hub 0', whatever the identifiers are. The ledger starts with it too, so it is named here alone.
@@ -11,7 +12,7 @@ founder ids = 0
 
 -- 'inside, unlocked, its own pred and succ'
 abbrev pub alone : ℕ → ℕ → Row
-alone hub name = record { identifier = name; state = 2; lock = 0; flag = 0; pred = hub; succ = hub; oldpred = none }
+alone hub name = record { identifier = name; state = INSIDE; lock = 0; flag = 0; pred = hub; succ = hub; oldpred = none }
 
 -- The rows of the ring that a hub founds; 'the others are outside'.
 abbrev pub foundedBy : ℕ → List ℕ → List Row

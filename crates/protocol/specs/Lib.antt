@@ -9,4 +9,5 @@ pub mod Answers
 pub mod Membership
 pub mod Calls
 pub mod Frames
+pub mod Ringrun
 pub mod Bytes

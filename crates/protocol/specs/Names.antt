@@ -1,6 +1,24 @@
--- The fourteen kinds of message, by document 01's numbers.
+-- Names for document 01's numbers: states, kinds of message, kinds of answer, refusals. The code has the same, with _ for -
+-- (src/: states, kinds, answer_kinds, refusals).
 use Prim.Native.Nat.{ℕ}
 
+-- 'States: 0 outside, 1 joining, 2 inside, 3 wanting to leave, 4 leaving.'
+abbrev pub OUTSIDE : ℕ
+OUTSIDE = 0
+
+abbrev pub JOINING : ℕ
+JOINING = 1
+
+abbrev pub INSIDE : ℕ
+INSIDE = 2
+
+abbrev pub WANTING-TO-LEAVE : ℕ
+WANTING-TO-LEAVE = 3
+
+abbrev pub LEAVING : ℕ
+LEAVING = 4
+
+-- The fourteen kinds of message.
 abbrev pub LOOKUP : ℕ
 LOOKUP = 1
 
@@ -42,3 +60,106 @@ STOPFORWARD = 13
 
 abbrev pub LEAVEDONE : ℕ
 LEAVEDONE = 14
+
+-- 'Kinds: 0 quiet, 1 found .., 7 left'
+abbrev pub QUIET : ℕ
+QUIET = 0
+
+abbrev pub FOUND : ℕ
+FOUND = 1
+
+abbrev pub ENTERED : ℕ
+ENTERED = 2
+
+abbrev pub GONE : ℕ
+GONE = 3
+
+abbrev pub JOIN-TURNED-AWAY : ℕ
+JOIN-TURNED-AWAY = 4
+
+abbrev pub LEAVE-TURNED-AWAY : ℕ
+LEAVE-TURNED-AWAY = 5
+
+abbrev pub JOINED : ℕ
+JOINED = 6
+
+abbrev pub LEFT : ℕ
+LEFT = 7
+
+-- the ninth count of a tally, behind those of the kinds
+abbrev pub REFUSAL : ℕ
+REFUSAL = 8
+
+-- The refusals, each the number of a question whose answer was no.
+
+-- fewer than 1,988 words
+abbrev pub RECORD-SHORT : ℕ
+RECORD-SHORT = 1
+
+-- the record is not well formed
+abbrev pub NOT-WELL-FORMED : ℕ
+NOT-WELL-FORMED = 2
+
+-- no such operation
+abbrev pub NO-OPERATION : ℕ
+NO-OPERATION = 3
+
+-- a hub number that is not below the hub count
+abbrev pub NO-HUB : ℕ
+NO-HUB = 4
+
+-- the hub is not in state 2 to 4
+abbrev pub NOT-IN-RING : ℕ
+NOT-IN-RING = 5
+
+-- join: the hub is not outside
+abbrev pub NOT-OUTSIDE : ℕ
+NOT-OUTSIDE = 6
+
+-- leave: the hub's lock is taken
+abbrev pub LOCKED : ℕ
+LOCKED = 7
+
+-- leave: the hub is its own succ
+abbrev pub LAST-HUB : ℕ
+LAST-HUB = 8
+
+-- deliver: nothing waits on the link
+abbrev pub NO-MESSAGE : ℕ
+NO-MESSAGE = 9
+
+-- deliver: the receiver, or the hub that a JOIN names, is not as required
+abbrev pub NOT-EXPECTED : ℕ
+NOT-EXPECTED = 10
+
+-- 256 messages wait
+abbrev pub MESSAGES-FULL : ℕ
+MESSAGES-FULL = 11
+
+-- ask: every ticket was given
+abbrev pub TICKETS-USED-UP : ℕ
+TICKETS-USED-UP = 12
+
+-- fresh: not 1 to 64 identifiers
+abbrev pub IDENTIFIER-COUNT : ℕ
+IDENTIFIER-COUNT = 13
+
+-- fresh: two identifiers are equal
+abbrev pub IDENTIFIER-TWICE : ℕ
+IDENTIFIER-TWICE = 14
+
+-- owner: no hub holds the number
+abbrev pub NO-HOLDER : ℕ
+NO-HOLDER = 15
+
+-- roll call: following succ does not come back
+abbrev pub NO-WAY-ROUND : ℕ
+NO-WAY-ROUND = 16
+
+-- the lent output is too short
+abbrev pub OUTPUT-SHORT : ℕ
+OUTPUT-SHORT = 17
+
+-- a line of `ringrun` that is no frame, which prints EEFF: no call returns it
+abbrev pub UNREADABLE : ℕ
+UNREADABLE = 255

@@ -4,9 +4,10 @@
 use mathlib.Core.List.{List, [], _∷_, _++_}
 use Prim.Native.Nat.{ℕ, _+_, _-_, _*_, _^_}
 use lib.ListN.{length, getD, replicate}
-use Rattle.lists.specs.Blocks.{table, flat}
+use Rattle.lists.specs.Basics.{table, flat}
 use Rattle.protocol.specs.declared.Row.{Row}
 use Rattle.protocol.specs.declared.Message.{Message}
+use Rattle.protocol.specs.Names.{OUTSIDE}
 
 -- Machine numbers and hub identifiers are below this.
 abbrev pub round : ℕ
@@ -118,7 +119,7 @@ read w = record {
 
 -- The row of a hub that is not in the ring and takes part in nothing.
 abbrev pub outside : ℕ → Row
-outside name = record { identifier = name; state = 0; lock = 0; flag = 0; pred = none; succ = none; oldpred = none }
+outside name = record { identifier = name; state = OUTSIDE; lock = 0; flag = 0; pred = none; succ = none; oldpred = none }
 
 -- The row of a hub, and a hub's identifier. (A hub number that is not below n counts as outside, with identifier 0.)
 abbrev pub row : State → ℕ → Row
@@ -141,8 +142,8 @@ withRow s hub h = record { rows = lib.ListN.set (s .rows) hub h; messages = s .m
 abbrev pub sent : State → Message → State
 sent s m = record { rows = s .rows; messages = s .messages ++ (m ∷ []); asked = s .asked }
 
-abbrev pub taken : State → ℕ → State
-taken s j = record { rows = s .rows; messages = lib.ListN.take j (s .messages) ++ lib.ListN.drop (j + 1) (s .messages); asked = s .asked }
+abbrev pub withoutMessage : State → ℕ → State
+withoutMessage s j = record { rows = s .rows; messages = lib.ListN.take j (s .messages) ++ lib.ListN.drop (j + 1) (s .messages); asked = s .asked }
 
 abbrev pub ticketed : State → State
 ticketed s = record { rows = s .rows; messages = s .messages; asked = s .asked + 1 }

@@ -1,29 +1,28 @@
 -- Document 01, 'Well formed', of the words; the part of it that is about the typed state is `formed`.
 use mathlib.Core.Bool.{Bool, _&&_, _||_}
 use mathlib.Core.List.{List, map}
-use Prim.Native.Nat.{ℕ, _+_, _-_, _*_}
+use Prim.Native.Nat.{ℕ}
 use lib.Dec.{leb, ltb, eqb}
-use lib.ListN.{length, getD, take, drop}
-use Rattle.lists.specs.Choice.{if_then_else_}
-use Rattle.lists.specs.Tests.{every, distinct}
+use lib.ListN.{getD, take, drop}
+use Rattle.lists.specs.Basics.{if_then_else_, every, distinct}
 use Rattle.protocol.specs.declared.Row.{Row}
 use Rattle.protocol.specs.declared.Message.{Message}
-use Rattle.protocol.specs.Names.{LOOKUP, JOIN, JOINPOINT, NEWSUCCACK, LEAVEPOINT}
+use Rattle.protocol.specs.Names.{LOOKUP, JOIN, JOINPOINT, NEWSUCCACK, LEAVEPOINT, INSIDE, LEAVING, OUTSIDE}
 use Rattle.protocol.specs.Record.{form, mostNodes, mostMessages, unusedRowWords, unusedMessageWords, rowStart, messageStart, none, State, count, countIn, messagesIn, read}
 
 -- 'States: 0 .. 4'; 'states 0 and 1 have pred and succ none, states 2 to 4 have both below n'
 unfoldable pub pointersOk : ℕ → Row → Bool
 pointersOk n h =
-    if ltb (h .state) 2 then eqb (h .pred) none && eqb (h .succ) none else ltb (h .state) 5 && ltb (h .pred) n && ltb (h .succ) n
+    if ltb (h .state) INSIDE then eqb (h .pred) none && eqb (h .succ) none else leb (h .state) LEAVING && ltb (h .pred) n && ltb (h .succ) n
 
 -- 'lock (0 free, 1 taken)'; 'state 0 has lock 0, states 1, 3, 4 lock 1'
 unfoldable pub lockOk : Row → Bool
-lockOk h = if eqb (h .state) 2 then ltb (h .lock) 2 else if eqb (h .state) 0 then eqb (h .lock) 0 else eqb (h .lock) 1
+lockOk h = if eqb (h .state) INSIDE then ltb (h .lock) 2 else if eqb (h .state) OUTSIDE then eqb (h .lock) 0 else eqb (h .lock) 1
 
 -- 'forward flag (0, 1)'; 'flag 1 needs state 2, lock 1 and oldpred below n; flag 0 has oldpred none'
 unfoldable pub flagOk : ℕ → Row → Bool
 flagOk n h =
-    if eqb (h .flag) 0 then eqb (h .oldpred) none else eqb (h .flag) 1 && eqb (h .state) 2 && eqb (h .lock) 1 && ltb (h .oldpred) n
+    if eqb (h .flag) 0 then eqb (h .oldpred) none else eqb (h .flag) 1 && eqb (h .state) INSIDE && eqb (h .lock) 1 && ltb (h .oldpred) n
 
 unfoldable pub rowOk : ℕ → Row → Bool
 rowOk n h = pointersOk n h && lockOk h && flagOk n h

@@ -1,6 +1,9 @@
 // The values of the ring protocol. Their meaning is in specs/, in the order of document 01.
+pub mod answer_kinds;
 pub mod form;
 pub mod kinds;
+pub mod refusals;
+pub mod states;
 
 // A node of the ring (document 01: a hub) has a number below the node count, and this row of seven
 // words (document 01: hub row).

@@ -7,8 +7,9 @@ use lib.Dec.{ltb}
 use lib.ListN.{length, take, drop}
 use borrow.Author.Tests.{lt-ltb, le-ltb}
 use Rattle.lists.specs.Choice.{on-yes, on-no}
-use Rattle.lists.specs.Search.{first}
+use Rattle.lists.specs.Basics.{first}
 use Rattle.protocol.specs.declared.Ownership.the-variants.{Refused, HeldBy}
+use Rattle.protocol.specs.Names.{NO-HOLDER, NO-HUB, NOT-IN-RING, NOT-WELL-FORMED, RECORD-SHORT}
 use Rattle.protocol.specs.Record.{recordSize, rowSize, rowStart, countIn, row, identifier, read}
 use Rattle.protocol.specs.WellFormed.{wellFormed}
 use Rattle.protocol.specs.Routing.{inRing, responsible, covers}
@@ -37,23 +38,23 @@ module _ (w : List ℕ) where
     pub lowest-read : lowestHolder (read w) v ≡ first (λ node. holds (read w) node v) n
     lowest-read = ap (first (λ node. holds (read w) node v)) (count-of-read w)
 
-    pub owner-1 : length w < recordSize → ownerCall w v ≡ Refused 1
+    pub owner-1 : length w < recordSize → ownerCall w v ≡ Refused RECORD-SHORT
     unfolding ownerCall
     owner-1 l = record-1 w Refused _ l
 
-    pub owner-2 : recordSize ≤ length w → wellFormed w ≡ false → ownerCall w v ≡ Refused 2
+    pub owner-2 : recordSize ≤ length w → wellFormed w ≡ false → ownerCall w v ≡ Refused NOT-WELL-FORMED
     unfolding ownerCall
     owner-2 l e = record-2 w Refused _ l e
 
     -- k is the lowest holder
     module _ (ok : Valid w) (k : ℕ) (e : k ≡ lowestHolder (read w) v) where
-      pub owner-15 : n ≤ k → ownerCall w v ≡ Refused 15
+      pub owner-15 : n ≤ k → ownerCall w v ≡ Refused NO-HOLDER
       unfolding ownerCall
       owner-15 l = record-rest w Refused _ (ok .long) (ok .formed) ∙ on-no _ _ _ (ap (λ z. ltb z n) (sym e) ∙ le-ltb k n l)
 
-      pub owner-held : k < n → ownerCall w v ≡ HeldBy k
+      pub owner-holder : k < n → ownerCall w v ≡ HeldBy k
       unfolding ownerCall
-      owner-held l = record-rest w Refused _ (ok .long) (ok .formed) ∙ on-yes _ _ _ (ap (λ z. ltb z n) (sym e) ∙ lt-ltb k n l) ∙ ap HeldBy (sym e)
+      owner-holder l = record-rest w Refused _ (ok .long) (ok .formed) ∙ on-yes _ _ _ (ap (λ z. ltb z n) (sym e) ∙ lt-ltb k n l) ∙ ap HeldBy (sym e)
 
   -- the hub row
   module _ (node : ℕ) where
@@ -75,20 +76,20 @@ module _ (w : List ℕ) where
 
   -- the roll call
   module _ (node : ℕ) (out : List ℕ) where
-    pub roll-1 : length w < recordSize → rollCall w node out ≡ unrolled out 1
+    pub roll-1 : length w < recordSize → rollCall w node out ≡ unrolled out RECORD-SHORT
     unfolding rollCall
     roll-1 l = record-1 w (unrolled out) _ l
 
-    pub roll-2 : recordSize ≤ length w → wellFormed w ≡ false → rollCall w node out ≡ unrolled out 2
+    pub roll-2 : recordSize ≤ length w → wellFormed w ≡ false → rollCall w node out ≡ unrolled out NOT-WELL-FORMED
     unfolding rollCall
     roll-2 l e = record-2 w (unrolled out) _ l e
 
     module _ (ok : Valid w) where
-      pub roll-4 : n ≤ node → rollCall w node out ≡ unrolled out 4
+      pub roll-4 : n ≤ node → rollCall w node out ≡ unrolled out NO-HUB
       unfolding rollCall
       roll-4 l = record-rest w (unrolled out) _ (ok .long) (ok .formed) ∙ on-no _ _ _ (le-ltb node n l)
 
-      pub roll-5 : node < n → inRing (row (read w) node) ≡ false → rollCall w node out ≡ unrolled out 5
+      pub roll-5 : node < n → inRing (row (read w) node) ≡ false → rollCall w node out ≡ unrolled out NOT-IN-RING
       unfolding rollCall
       roll-5 l e = record-rest w (unrolled out) _ (ok .long) (ok .formed) ∙ on-yes _ _ _ (lt-ltb node n l) ∙ on-no _ _ _ e
 

@@ -10,18 +10,20 @@ use lib.Dec.{leb, eqb}
 use lib.ListN.{length, getD, set, take, drop, length-append, length-take, length-drop}
 use lib.Seq.{set-at, set-split, take-suc, length-take-le, append-snoc}
 use borrow.Author.Tests.{eq-eqb, ne-eqb, le-leb, lt-leb}
-use Rattle.lists.specs.Choice.{if_then_else_, require, on-yes, on-no}
+use Rattle.lists.specs.Basics.{if_then_else_, require}
+use Rattle.lists.specs.Choice.{on-yes, on-no}
 use Rattle.lists.specs.Splice.{splice}
 use Rattle.protocol.specs.declared.Roll.{Roll}
 use Rattle.protocol.specs.declared.Roll.the-variants.{Refused, Length}
+use Rattle.protocol.specs.Names.{NO-WAY-ROUND, OUTPUT-SHORT}
 use Rattle.protocol.specs.Record.{none, State, row}
-use Rattle.protocol.specs.Calls.{Traversal, lost, closed, followedBy, roll, Rolled, unrolled, rollWritten}
+use Rattle.protocol.specs.Calls.{Traversal, lost, complete, followedBy, roll, Rolled, unrolled, rollWritten}
 
 -- What a roll leaves that is written from a place on: the places before it are for the nodes that come before.
 unfoldable pub rolledFrom : List ℕ → ℕ → Traversal → Rolled
-rolledFrom out at lost = unrolled out 16
-rolledFrom out at (closed l) =
-    require (leb (at + length l) (length out)) (unrolled out 17)
+rolledFrom out at lost = unrolled out NO-WAY-ROUND
+rolledFrom out at (complete l) =
+    require (leb (at + length l) (length out)) (unrolled out OUTPUT-SHORT)
     (record { outcome = Length (at + length l); output = splice out at l })
 
 -- What one node more, before the rest of the roll, leaves.
@@ -38,7 +40,7 @@ Room out at (Length k) = at < length out
 pub from-start : (out : List ℕ) (t : Traversal) → rollWritten out t ≡ rolledFrom out 0 t
 unfolding rollWritten rolledFrom splice
 from-start out lost = refl
-from-start out (closed l) = rw zero-add
+from-start out (complete l) = rw zero-add
 
 -- splices: with one node more in front, of one node, and their length
 set-splice : (out : List ℕ) (at node : ℕ) (l : List ℕ) → at + 1 + length l ≤ length out → set (splice out (at + 1) l) at node ≡ splice out at (node ∷ l)
@@ -68,20 +70,20 @@ length-splice out at l h = simp (length-append, length-take, length-drop) (omega
 
 -- a roll that comes back, with and without room in the output
 module _ (out : List ℕ) (at : ℕ) (l : List ℕ) where
-  fits : at + length l ≤ length out → rolledFrom out at (closed l) ≡ record { outcome = Length (at + length l); output = splice out at l }
+  fits : at + length l ≤ length out → rolledFrom out at (complete l) ≡ record { outcome = Length (at + length l); output = splice out at l }
   unfolding rolledFrom
   fits h = on-yes _ _ _ (le-leb (at + length l) (length out) h)
 
-  short : length out < at + length l → rolledFrom out at (closed l) ≡ unrolled out 17
+  short : length out < at + length l → rolledFrom out at (complete l) ≡ unrolled out OUTPUT-SHORT
   unfolding rolledFrom
   short h = on-no _ _ _ (lt-leb (at + length l) (length out) h)
 
 module _ (out : List ℕ) (at node : ℕ) where
   -- the last node of a roll
-  pub last-written : at < length out → rolledFrom out at (closed (node ∷ [])) ≡ record { outcome = Length (at + 1); output = set out at node }
+  pub last-written : at < length out → rolledFrom out at (complete (node ∷ [])) ≡ record { outcome = Length (at + 1); output = set out at node }
   last-written h = fits out at (node ∷ []) (omega arith) ∙ ap (λ l. record { outcome = Length (at + 1); output = l }) (splice-one out at node h)
 
-  pub last-17 : length out ≤ at → rolledFrom out at (closed (node ∷ [])) ≡ unrolled out 17
+  pub last-17 : length out ≤ at → rolledFrom out at (complete (node ∷ [])) ≡ unrolled out OUTPUT-SHORT
   last-17 h = short out at (node ∷ []) (omega arith)
 
   abbrev after : Rolled → Rolled
@@ -91,12 +93,12 @@ module _ (out : List ℕ) (at node : ℕ) where
   followed-written : (t : Traversal) → rolledFrom out at (followedBy node t) ≡ after (rolledFrom out (at + 1) t)
   unfolding rolledFrom preceded
   followed-written lost = refl
-  followed-written (closed l) = go (decLe (at + 1 + length l) (length out))
+  followed-written (complete l) = go (decLe (at + 1 + length l) (length out))
     where
       e : at + suc (length l) ≡ at + 1 + length l
       e = omega arith
 
-      go : Dec (at + 1 + length l ≤ length out) → rolledFrom out at (closed (node ∷ l)) ≡ after (rolledFrom out (at + 1) (closed l))
+      go : Dec (at + 1 + length l ≤ length out) → rolledFrom out at (complete (node ∷ l)) ≡ after (rolledFrom out (at + 1) (complete l))
       go (yes h) =
           fits out at (node ∷ l) (omega arith)
           ∙ ap₂ (λ k z. record { outcome = Length k; output = z }) e (sym (set-splice out at node l h))
@@ -111,9 +113,9 @@ module _ (out : List ℕ) (at : ℕ) where
   there : (t : Traversal) → Before (rolledFrom out (at + 1) t)
   unfolding rolledFrom Room
   there lost = tt
-  there (closed l) = go (decLe (at + 1 + length l) (length out))
+  there (complete l) = go (decLe (at + 1 + length l) (length out))
     where
-      go : Dec (at + 1 + length l ≤ length out) → Before (rolledFrom out (at + 1) (closed l))
+      go : Dec (at + 1 + length l ≤ length out) → Before (rolledFrom out (at + 1) (complete l))
       go (yes h) = subst Before (sym (fits out (at + 1) l h)) (omega (arith, length-splice out (at + 1) l h))
       go (no h) = subst Before (sym (short out (at + 1) l (omega arith))) tt
 
@@ -125,13 +127,13 @@ module _ (s : State) (start left node : ℕ) (out : List ℕ) (at : ℕ) where
   abbrev rolled : Rolled
   rolled = rolledFrom out at (roll s start left node)
 
-  pub over-16 : left ≡ 0 → rolled ≡ unrolled out 16
+  pub over-16 : left ≡ 0 → rolled ≡ unrolled out NO-WAY-ROUND
   unfolding roll rolledFrom
   over-16 e = ap (λ k. rolledFrom out at (roll s start k node)) e
 
   module _ (more : left ≡ 0 → ⊥) (next : ℕ) (e : next ≡ row s node .succ) where
     abbrev onwards : ℕ → Traversal
-    onwards k = if eqb next start then closed (node ∷ []) else if eqb next none then lost else followedBy node (roll s start k next)
+    onwards k = if eqb next start then complete (node ∷ []) else if eqb next none then lost else followedBy node (roll s start k next)
 
     step : roll s start left node ≡ onwards (left - 1)
     unfolding roll
@@ -139,17 +141,17 @@ module _ (s : State) (start left node : ℕ) (out : List ℕ) (at : ℕ) where
       where
         go : (k : ℕ) → (k ≡ 0 → ⊥)
             → roll s start k node
-            ≡ (if eqb (row s node .succ) start then closed (node ∷ [])
+            ≡ (if eqb (row s node .succ) start then complete (node ∷ [])
             else if eqb (row s node .succ) none then lost
             else followedBy node (roll s start (k - 1) (row s node .succ)))
         go zero q = absurd (q refl)
         go (suc k) q = let j : suc k - 1 ≡ k = omega arith in rw j
 
-    pub ends : next ≡ start → rolled ≡ rolledFrom out at (closed (node ∷ []))
+    pub ends : next ≡ start → rolled ≡ rolledFrom out at (complete (node ∷ []))
     unfolding if_then_else_
     ends p = ap (rolledFrom out at) (step ∙ rw (eq-eqb next start p))
 
-    pub lost-16 : (next ≡ start → ⊥) → next ≡ none → rolled ≡ unrolled out 16
+    pub lost-16 : (next ≡ start → ⊥) → next ≡ none → rolled ≡ unrolled out NO-WAY-ROUND
     unfolding if_then_else_ rolledFrom
     lost-16 p q = ap (rolledFrom out at) {y = lost} (step ∙ rw (ne-eqb next start p, eq-eqb next none q))
 

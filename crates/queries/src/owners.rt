@@ -1,6 +1,7 @@
 // The owner query: 'does some hub hold the number? 15 (the lowest hub number if several).'
 use protocol::Ownership;
 use protocol::form::RECORD_WORDS;
+use protocol::refusals;
 use record::identifier_of;
 use record::row_of;
 use routing::covers;
@@ -46,14 +47,14 @@ pub fn owner(w: &[u32], number: u32) -> Ownership
     ensures { λ r. ⌜ r ≡ ownerCall (now (w .entry)) number ⌝ }
 {
     if w.len() < RECORD_WORDS {
-        return Ownership::Refused(1);
+        return Ownership::Refused(refusals::RECORD_SHORT);
     }
     if !wellformed::well_formed(w) {
-        return Ownership::Refused(2);
+        return Ownership::Refused(refusals::NOT_WELL_FORMED);
     }
     let node = first_holder(w, number);
     if node < w[1] {
         return Ownership::HeldBy(node);
     }
-    Ownership::Refused(15)
+    Ownership::Refused(refusals::NO_HOLDER)
 }

@@ -5,7 +5,7 @@ ghost use mathlib.Core.Path.{_≡_};
 ghost use Prim.Native.Nat.{_+_, _*_, _≤_, _<_};
 ghost use lib.ListN.{length};
 ghost use lib.Seq.{sets};
-ghost use Rattle.lists.specs.Splice.{shifted, closed};
+ghost use Rattle.lists.specs.Splice.{shifted, closedUp};
 ghost use Rattle.protocol.specs.Record.{mostMessages, messageSize, recordSize, messagesIn, messageWords, messageFrom, read};
 ghost use Rattle.protocol.specs.Step.{oldest};
 ghost use Rattle.layout.specs.Edits.{pushed, removed};
@@ -80,7 +80,7 @@ fn shift(part: &mut [u32], n: usize)
 // Closes the gap of one message at the start of the part; behind the n words that come forward there is 0.
 fn close_up(part: &mut [u32], n: usize)
     requires { ⌜ n + messageSize ≤ length (now part) ⌝ }
-    ensures { λ _. ⌜ now (part .exit) ≡ closed messageSize (now (part .entry)) n ⌝ }
+    ensures { λ _. ⌜ now (part .exit) ≡ closedUp messageSize (now (part .entry)) n ⌝ }
 {
     shift(part, n);
     write_message(

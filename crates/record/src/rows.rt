@@ -2,6 +2,7 @@ use protocol::Row;
 use protocol::form::NONE;
 use protocol::form::ROW_WORDS;
 use protocol::form::ROWS_AT;
+use protocol::states;
 ghost use mathlib.Core.Path.{_≡_};
 ghost use Prim.Native.Nat.{_+_, _*_, _≤_, _<_};
 ghost use lib.ListN.{length};
@@ -31,7 +32,7 @@ pub fn outside_row(identifier: u32) -> Row
 {
     Row {
         identifier,
-        state: 0,
+        state: states::OUTSIDE,
         lock: 0,
         flag: 0,
         pred: NONE,

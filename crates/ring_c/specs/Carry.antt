@@ -1,19 +1,20 @@
--- Words as bytes and back: what is loaded, what is written back, and what is left alone. Assumes nothing.
+-- What is loaded and written back, word by word. (The laws of words and bytes are in `layout`.) Assumes nothing.
 use mathlib.Core.Path.{_≡_, refl, ap, sym, _∙_}
 use mathlib.Core.List.{List, [], _∷_, _++_, append-assoc}
-use Prim.Native.Nat.{ℕ, zero, suc, _+_, _*_, _/_, _%_, _^_, _<_, _≤_}
+use Prim.Native.Nat.{ℕ, zero, suc, _+_, _*_, _<_, _≤_}
 use native.Mathlib.Nat.{add-assoc}
 use native.Mathlib.Omega.{arith}
 use native.Mathlib.Numerals.{add-one}
-use lib.ListN.{length, getD, take, drop, set, length-append}
+use lib.ListN.{length, getD, take, drop, set}
 use lib.Seq.{take-suc, drop-drop, drop-cons, length-take-le, take-suc-set}
-use Rattle.lists.specs.Members.{All}
-use Rattle.lists.specs.Blocks.{table, flat-append, length-flat}
+use Rattle.lists.specs.Basics.{All, table}
+use Rattle.lists.specs.Blocks.{flat-append, length-flat}
 use Rattle.lists.specs.Splice.{splice, splice-at}
-use Rattle.protocol.specs.Bytes.{wordOf, wordBytes, wordsOf, bytesOf, over, bytesAfter, carried}
+use Rattle.protocol.specs.Bytes.{Byte, wordOf, wordBytes, wordsOf, bytesOf, over, bytesAfter, carried}
 use Rattle.protocol.specs.declared.Outcome.{Outcome}
 use Rattle.protocol.specs.declared.Outcome.the-variants.{Refused, Answered}
 use Rattle.protocol.specs.Answers.{refusal, outcomeWords}
+use Rattle.layout.specs.Bytes.{word-size, back}
 use Rattle.ring_c.specs.First.{with}
 
 -- word i of the bytes
@@ -58,67 +59,6 @@ words-split b (suc n) h =
     words-split b n (omega arith)
     ∙ ap (λ l. firstWords b n ++ wordsOf l) (four-more b n (omega arith))
     ∙ sym (append-assoc (firstWords b n) (wordAt b n ∷ []) (wordsOf (drop (4 * suc n) b)))
-
-pub word-size : (x : ℕ) → length (wordBytes x) ≡ 4
-word-size x = refl
-
--- bytes are below 256
-abbrev pub Byte : ℕ → Type 0
-Byte x = x < 256
-
-same-bytes : (a b c d : ℕ) → Byte a → Byte b → Byte c → Byte d → wordBytes (wordOf a b c d) ≡ a ∷ b ∷ c ∷ d ∷ []
-same-bytes a b c d ha hb hc hd =
-    let x = wordOf a b c d in
-    let p : x % 256 ≡ a = omega arith in
-    let q : x / 256 ≡ b + 256 * c + 65536 * d = omega arith in
-    let r : x / 65536 ≡ c + 256 * d = omega arith in
-    let s : x / 16777216 ≡ d = omega arith in
-    let i : (b + 256 * c + 65536 * d) % 256 ≡ b = omega arith in
-    let j : (c + 256 * d) % 256 ≡ c = omega arith in
-    let k : d % 256 ≡ d = omega arith in
-    rw (p, q, r, s, i, j, k)
-
--- Bytes read as words and written back are the same bytes, those left over too.
-pub round-trip : (b : List ℕ) → All Byte b → over b (wordsOf b) ≡ b
-unfolding wordsOf over
-round-trip [] h = refl
-round-trip (x ∷ []) h = refl
-round-trip (x ∷ y ∷ []) h = refl
-round-trip (x ∷ y ∷ z ∷ []) h = refl
-round-trip (x ∷ y ∷ z ∷ u ∷ r) h =
-    let n = length (wordsOf r) in
-    let e : 4 * suc n ≡ suc (suc (suc (suc (4 * n)))) = omega arith in
-    ap (λ l. l ++ (bytesOf (wordsOf r) ++ drop (4 * suc n) (x ∷ y ∷ z ∷ u ∷ r))) (same-bytes x y z u (h .0) (h .1 .0) (h .1 .1 .0) (h .1 .1 .1 .0))
-    ∙ ap (λ k. x ∷ y ∷ z ∷ u ∷ (bytesOf (wordsOf r) ++ drop k (x ∷ y ∷ z ∷ u ∷ r))) e
-    ∙ ap (λ l. x ∷ y ∷ z ∷ u ∷ l) (round-trip r (h .1 .1 .1 .1))
-
--- And words below 2^32 written as bytes are read as the same words: a call finds the record that the call before it left.
-same-word : (x : ℕ) → x < 2 ^ 32 → wordOf (x % 256) (x / 256 % 256) (x / 65536 % 256) (x / 16777216 % 256) ≡ x
-same-word x h =
-    let p : x ≡ x % 256 + 256 * (x / 256) = omega arith in
-    let q : x / 256 ≡ x / 256 % 256 + 256 * (x / 65536) = omega arith in
-    let r : x / 65536 ≡ x / 65536 % 256 + 256 * (x / 16777216) = omega arith in
-    let s : x / 16777216 % 256 ≡ x / 16777216 = omega arith in
-    omega (arith, p, q, r, s)
-
-pub words-back : (w t : List ℕ) → All (λ x. x < 2 ^ 32) w → wordsOf (bytesOf w ++ t) ≡ w ++ wordsOf t
-unfolding wordsOf
-words-back [] t h = refl
-words-back (x ∷ w) t h = rw (same-word x (h .0)) (ap (λ l. x ∷ l) (words-back w t (h .1)))
-
-pub all-drop : (n : ℕ) (b : List ℕ) → All Byte b → All Byte (drop n b)
-all-drop zero b h = h
-all-drop (suc n) [] h = h
-all-drop (suc n) (x ∷ b) h = all-drop n b (h .1)
-
--- Words behind the record are written back as they were read: to write the record alone is the same.
-pub back : (b s : List ℕ) (n : ℕ) → All Byte b → length s ≡ n → over b (s ++ wordsOf (drop (4 * n) b)) ≡ over b s
-unfolding over
-back b s n h e =
-    let r = drop (4 * n) b in
-    let k : 4 * length (s ++ wordsOf r) ≡ 4 * n + 4 * length (wordsOf r) = simp length-append (omega arith) in
-    rw (flat-append wordBytes s (wordsOf r), k, ← drop-drop (4 * length (wordsOf r)) (4 * n) b, append-assoc)
-    (rw e (ap (λ l. bytesOf s ++ l) (round-trip r (all-drop (4 * n) b h))))
 
 -- writing: the first i of the words
 pub over-none : (b w : List ℕ) → b ≡ over b (take 0 w)

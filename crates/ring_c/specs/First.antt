@@ -2,13 +2,15 @@
 use mathlib.Core.Path.{_≡_, refl, sym, _∙_, ap}
 use mathlib.Core.Bool.{Bool, true, false, _&&_}
 use mathlib.Core.List.{List, [], _++_, append-assoc, append-nil}
-use Prim.Native.Nat.{ℕ, _+_, _≤_}
+use Prim.Native.Nat.{ℕ, _≤_}
 use native.Mathlib.Omega.{arith}
 use lib.Dec.{leb, ltb}
 use lib.ListN.{length, take, drop, length-append, drop-of-length-le, List·getD-append}
 use lib.Seq.{drop-append-le, take-at}
-use Rattle.lists.specs.Choice.{if_then_else_, require, on-yes}
-use Rattle.lists.specs.Tests.{says-same, distinct, T-true, true-T}
+use Rattle.lists.specs.Basics.{if_then_else_, require, distinct}
+use Rattle.lists.specs.Choice.{on-yes}
+use Rattle.lists.specs.Tests.{says-same, T-true, true-T}
+use Rattle.protocol.specs.Names.{NO-HOLDER}
 use Rattle.protocol.specs.Record.{mostNodes, recordSize, countIn, read, words}
 use Rattle.protocol.specs.WellFormed.{wellFormed}
 use Rattle.protocol.specs.Step.{Result, refused, accepted, step}
@@ -91,8 +93,8 @@ module _ (a t : List ℕ) (e : length a ≡ recordSize) where
   unfolding ownerCall
   same-owner v =
       same-questions OwnerRefused OwnerRefused
-      (require (ltb (lowestHolder (read (a ++ t)) v) (countIn (a ++ t))) (OwnerRefused 15) (HeldBy (lowestHolder (read (a ++ t)) v)))
-      (require (ltb (lowestHolder (read a) v) (countIn a)) (OwnerRefused 15) (HeldBy (lowestHolder (read a) v)))
+      (require (ltb (lowestHolder (read (a ++ t)) v) (countIn (a ++ t))) (OwnerRefused NO-HOLDER) (HeldBy (lowestHolder (read (a ++ t)) v)))
+      (require (ltb (lowestHolder (read a) v) (countIn a)) (OwnerRefused NO-HOLDER) (HeldBy (lowestHolder (read a) v)))
       (λ o. o)
       (λ k. refl)
       (λ ok. rw (same-read ok, List·getD-append a t 0 1 (omega arith)))

@@ -1,28 +1,29 @@
 -- What each call for C gives, question by question. Assumes nothing.
 use mathlib.Core.Path.{_≡_, refl, ap, sym, _∙_}
 use mathlib.Core.List.{List, [], _∷_, _++_, append-nil}
-use Prim.Native.Nat.{ℕ, _+_, _*_, _/_, _<_, _≤_}
+use Prim.Native.Nat.{ℕ, _*_, _/_, _<_, _≤_}
 use native.Mathlib.Omega.{arith}
 use lib.ListN.{length, drop, length-drop, length-set, length-map, drop-of-length-le}
 use lib.Seq.{drop-at}
 use borrow.Author.Tests.{le-leb, lt-leb}
 use Rattle.lists.specs.Choice.{on-yes, on-no}
-use Rattle.lists.specs.Members.{All}
+use Rattle.lists.specs.Basics.{All}
 use Rattle.lists.specs.Blocks.{length-table}
 use Rattle.protocol.specs.declared.Outcome.{Outcome}
-use Rattle.protocol.specs.declared.Outcome.the-variants.{Refused}
 use Rattle.protocol.specs.declared.Answer.the-variants.{Quiet}
+use Rattle.protocol.specs.Names.{IDENTIFIER-COUNT, OUTPUT-SHORT, RECORD-SHORT}
 use Rattle.protocol.specs.Record.{mostNodes, mostMessages, recordSize, count, words}
 use Rattle.protocol.specs.Fresh.{fresh}
 use Rattle.protocol.specs.Step.{accepted}
 use Rattle.protocol.specs.declared.Ownership.the-variants.{Refused as OwnerRefused}
 use Rattle.protocol.specs.Answers.{refusal, outcomeWords, ownerRefusal, ownerWords}
 use Rattle.protocol.specs.Calls.{turnedDown, written, stepCall, freshCall, ownerCall}
-use Rattle.protocol.specs.Bytes.{wordsOf, over, bytesAfter, carried, founded, stepBytes, freshBytes, told, ownerBytes}
+use Rattle.protocol.specs.Bytes.{Byte, wordsOf, over, bytesAfter, carried, freshCarried, stepBytes, freshBytes, told, ownerBytes}
 use Rattle.layout.specs.Words.{length-words}
 use Rattle.layout.specs.Questions.{long-yes, long-no, record-1}
 use Rattle.ring_c.specs.First.{with, same-step, same-fresh, same-owner}
-use Rattle.ring_c.specs.Carry.{wordAt, firstWords, words-split, Byte, back, carried-first}
+use Rattle.layout.specs.Bytes.{back}
+use Rattle.ring_c.specs.Carry.{wordAt, firstWords, words-split, carried-first}
 
 -- fewer than four bytes hold no word
 few : (b : List ℕ) → length b < 4 → wordsOf b ≡ []
@@ -54,11 +55,11 @@ unfolding fresh
 fresh-quiet ids = omega arith
 
 module _ (b out : List ℕ) (operation x y : ℕ) where
-  pub step-17 : length out < 20 → stepBytes b operation x y out ≡ record { code = 17; bytes = b; output = out }
+  pub step-17 : length out < 20 → stepBytes b operation x y out ≡ record { code = OUTPUT-SHORT; bytes = b; output = out }
   unfolding stepBytes
   step-17 h = on-no _ _ _ (lt-leb 20 (length out) h)
 
-  pub step-1 : 20 ≤ length out → length b < 4 * recordSize → stepBytes b operation x y out ≡ record { code = 1; bytes = b; output = out }
+  pub step-1 : 20 ≤ length out → length b < 4 * recordSize → stepBytes b operation x y out ≡ record { code = RECORD-SHORT; bytes = b; output = out }
   unfolding stepBytes stepCall carried refusal outcomeWords bytesAfter over
   step-1 h l =
       on-yes _ _ _ (le-leb 20 (length out) h)
@@ -78,31 +79,31 @@ module _ (b out : List ℕ) (operation x y : ℕ) where
       ∙ carried-first b s recordSize bytes e out o
 
 module _ (b ids : List ℕ) where
-  pub fresh-1 : length b < 4 * recordSize → freshBytes b ids ≡ record { code = 1; bytes = b }
-  unfolding freshBytes freshCall founded refusal bytesAfter
-  fresh-1 l = ap (founded b) (on-no _ _ _ (long-no (wordsOf b) (omega (arith, words-length b))))
+  pub fresh-1 : length b < 4 * recordSize → freshBytes b ids ≡ record { code = RECORD-SHORT; bytes = b }
+  unfolding freshBytes freshCall freshCarried refusal bytesAfter
+  fresh-1 l = ap (freshCarried b) (on-no _ _ _ (long-no (wordsOf b) (omega (arith, words-length b))))
 
-  pub fresh-13 : 4 * recordSize ≤ length b → mostNodes < length ids / 4 → freshBytes b ids ≡ record { code = 13; bytes = b }
-  unfolding freshBytes freshCall founded refusal bytesAfter
+  pub fresh-13 : 4 * recordSize ≤ length b → mostNodes < length ids / 4 → freshBytes b ids ≡ record { code = IDENTIFIER-COUNT; bytes = b }
+  unfolding freshBytes freshCall freshCarried refusal bytesAfter
   fresh-13 l h =
       let n = length (wordsOf ids) in
-      ap (founded b) (on-yes _ _ _ (long-yes (wordsOf b) (omega (arith, words-length b)))
+      ap (freshCarried b) (on-yes _ _ _ (long-yes (wordsOf b) (omega (arith, words-length b)))
       ∙ on-no _ _ _ (rw (lt-leb n mostNodes (omega (arith, words-length ids)), le-leb 1 n (omega (arith, words-length ids)))))
 
   -- the call on any other 1,988 words z, which leaves the words s
   pub fresh-rest : All Byte b → 4 * recordSize ≤ length b → length ids / 4 ≤ mostNodes → (z : List ℕ) → length z ≡ recordSize → (o : Outcome) (s : List ℕ)
       → freshCall z (firstWords ids (length ids / 4)) ≡ record { outcome = o; slice = s }
-      → freshBytes b ids ≡ founded b (record { outcome = o; slice = s })
-  unfolding freshBytes founded refusal bytesAfter written
+      → freshBytes b ids ≡ freshCarried b (record { outcome = o; slice = s })
+  unfolding freshBytes freshCarried refusal bytesAfter written
   fresh-rest bytes l h z e o s r =
-      ap (λ i. founded b (freshCall (wordsOf b) i)) (words-all ids)
-      ∙ same-fresh (founded b) (wordsOf b) z i (omega (arith, words-length b)) (omega arith) refused-same accepted-same
-      ∙ ap (founded b) r
+      ap (λ i. freshCarried b (freshCall (wordsOf b) i)) (words-all ids)
+      ∙ same-fresh (freshCarried b) (wordsOf b) z i (omega (arith, words-length b)) (omega arith) refused-same accepted-same
+      ∙ ap (freshCarried b) r
     where
       i : List ℕ
       i = firstWords ids (length ids / 4)
 
-      refused-same : (k : ℕ) → founded b (turnedDown (wordsOf b) k) ≡ founded b (turnedDown z k)
+      refused-same : (k : ℕ) → freshCarried b (turnedDown (wordsOf b) k) ≡ freshCarried b (turnedDown z k)
       refused-same k = refl
 
       behind : drop recordSize (wordsOf b) ≡ wordsOf (drop (4 * recordSize) b)
@@ -111,18 +112,18 @@ module _ (b ids : List ℕ) where
       size : length (words (fresh i)) ≡ recordSize
       size = length-words (fresh i) [] (fresh-count i (omega (arith, length-table (length ids / 4) (wordAt ids)))) (fresh-quiet i)
 
-      accepted-same : founded b (written (wordsOf b) (accepted Quiet (fresh i))) ≡ founded b (written z (accepted Quiet (fresh i)))
+      accepted-same : freshCarried b (written (wordsOf b) (accepted Quiet (fresh i))) ≡ freshCarried b (written z (accepted Quiet (fresh i)))
       accepted-same =
           ap (λ l. record { code = 0; bytes = over b (words (fresh i) ++ l) }) behind
           ∙ ap (λ l. record { code = 0; bytes = l }) (back b (words (fresh i)) recordSize bytes size)
           ∙ ap (λ l. record { code = 0; bytes = over b l }) (sym (append-nil (words (fresh i))) ∙ ap (λ l. words (fresh i) ++ l) (sym (drop-of-length-le z {i = recordSize} (omega arith))))
 
 module _ (b out : List ℕ) (number : ℕ) where
-  pub owner-17 : length out < 4 → ownerBytes b number out ≡ record { code = 17; output = out }
+  pub owner-17 : length out < 4 → ownerBytes b number out ≡ record { code = OUTPUT-SHORT; output = out }
   unfolding ownerBytes
   owner-17 h = on-no _ _ _ (lt-leb 4 (length out) h)
 
-  pub owner-1 : 4 ≤ length out → length b < 4 * recordSize → ownerBytes b number out ≡ record { code = 1; output = out }
+  pub owner-1 : 4 ≤ length out → length b < 4 * recordSize → ownerBytes b number out ≡ record { code = RECORD-SHORT; output = out }
   unfolding ownerBytes ownerCall told ownerRefusal ownerWords over
   owner-1 h l =
       on-yes _ _ _ (le-leb 4 (length out) h)

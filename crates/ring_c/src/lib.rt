@@ -10,6 +10,7 @@ use crate::results::finish_fresh;
 use crate::results::finish_owner;
 use protocol::form::RECORD_BYTES;
 use protocol::form::RECORD_WORDS;
+use protocol::refusals;
 ghost use mathlib.Core.Path.{_≡_};
 ghost use Rattle.protocol.specs.Bytes.{stepBytes, ownerBytes, freshBytes};
 
@@ -19,7 +20,7 @@ pub extern "C" fn ring_step(words: &mut [u8], operation: u32, x: u32, y: u32, ou
     ensures { λ r. ⌜ stepBytes (now (words .entry)) operation x y (now (out .entry)) ≡ record { code = r; bytes = now (words .exit); output = now (out .exit) } ⌝ }
 {
     if out.len() < 20 {
-        return 17;
+        return refusals::OUTPUT_SHORT;
     }
     if words.len() < RECORD_BYTES {
         return 1;
@@ -35,7 +36,7 @@ pub extern "C" fn ring_owner(words: &[u8], number: u32, out: &mut [u8]) -> u32
     ensures { λ r. ⌜ ownerBytes (now (words .entry)) number (now (out .entry)) ≡ record { code = r; output = now (out .exit) } ⌝ }
 {
     if out.len() < 4 {
-        return 17;
+        return refusals::OUTPUT_SHORT;
     }
     if words.len() < RECORD_BYTES {
         return 1;

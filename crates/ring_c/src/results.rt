@@ -6,7 +6,7 @@ use protocol::Ownership;
 ghost use mathlib.Core.Path.{_≡_};
 ghost use Prim.Native.Nat.{_*_, _≤_};
 ghost use lib.ListN.{length};
-ghost use Rattle.protocol.specs.Bytes.{carried, told, founded};
+ghost use Rattle.protocol.specs.Bytes.{carried, told, freshCarried};
 
 // A step that leaves the words w.
 pub(crate) fn finish(words: &mut [u8], out: &mut [u8], w: &[u32], r: Outcome) -> u32
@@ -42,7 +42,7 @@ pub(crate) fn finish_owner(out: &mut [u8], r: Ownership) -> u32
 // A fresh call that leaves the words w. Its answer is quiet, and has nothing to tell.
 pub(crate) fn finish_fresh(words: &mut [u8], w: &[u32], r: Outcome) -> u32
     requires { ⌜ 4 * length (now w) ≤ length (now words) ⌝ }
-    ensures { λ k. ⌜ founded (now (words .entry)) (record { outcome = r; slice = now (w .entry) }) ≡ record { code = k; bytes = now (words .exit) } ⌝ }
+    ensures { λ k. ⌜ freshCarried (now (words .entry)) (record { outcome = r; slice = now (w .entry) }) ≡ record { code = k; bytes = now (words .exit) } ⌝ }
 {
     match r {
         Outcome::Refused(k) => k,

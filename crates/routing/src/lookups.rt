@@ -6,6 +6,8 @@ use protocol::Decision;
 use protocol::Message;
 use protocol::Route;
 use protocol::Row;
+use protocol::refusals;
+use protocol::states;
 ghost use mathlib.Core.Path.{_≡_};
 ghost use Rattle.protocol.specs.Kinds.{grown as grownSpec, lookupRouted, lookup as lookupSpec};
 
@@ -44,7 +46,7 @@ pub fn lookup(p: u32, h: Row, m: Message) -> Decision
 {
     let s = h.state;
     match s {
-        2..=4 => lookup_routed(h, m, route(p, h, m.from, m.a)),
-        _ => Decision::Refuse(10),
+        states::INSIDE..=states::LEAVING => lookup_routed(h, m, route(p, h, m.from, m.a)),
+        _ => Decision::Refuse(refusals::NOT_EXPECTED),
     }
 }

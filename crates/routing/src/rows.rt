@@ -1,5 +1,6 @@
 // What a row says of its node.
 use protocol::Row;
+use protocol::states;
 ghost use mathlib.Core.Path.{_≡_};
 ghost use Rattle.protocol.specs.Routing.{inRing, responsible as responsibleSpec};
 
@@ -9,7 +10,7 @@ pub fn in_ring(h: Row) -> bool
 {
     let s = h.state;
     match s {
-        2..=4 => true,
+        states::INSIDE..=states::LEAVING => true,
         _ => false,
     }
 }
@@ -20,7 +21,7 @@ pub fn responsible(h: Row) -> bool
 {
     let s = h.state;
     match s {
-        2 | 3 => true,
+        states::INSIDE | states::WANTING_TO_LEAVE => true,
         _ => false,
     }
 }

@@ -1,6 +1,7 @@
 // Document 01, 'Routing at hub t'. ('In a range, pred means that hub's identifier': p.)
 use protocol::Route;
 use protocol::Row;
+use protocol::states;
 ghost use mathlib.Core.Path.{_≡_};
 ghost use Rattle.protocol.specs.Routing.{covers as coversSpec, onward as onwardSpec, route as routeSpec};
 
@@ -19,7 +20,7 @@ pub fn onward(p: u32, h: Row, v: u32) -> Route
 {
     let s = h.state;
     match s {
-        4 => Route::To(h.succ),
+        states::LEAVING => Route::To(h.succ),
         _ => {
             if covers(p, h, v) {
                 return Route::Own;

@@ -1,22 +1,21 @@
 -- The questions of each command, in the words' terms: which facts lead to which refusal, and to the command's effect. Assumes nothing.
-use mathlib.Core.Path.{_≡_, refl, sym, _∙_, ap, ap₂}
+use mathlib.Core.Path.{_≡_, sym, _∙_, ap}
 use mathlib.Core.Bool.{Bool, true, false, not, _&&_}
 use mathlib.Core.List.{List}
-use Prim.Native.Nat.{ℕ, _+_, _≤_, _<_}
-use lib.Dec.{ltb, eqb, ltb→lt}
-use lib.ListN.{length, getD}
+use Prim.Native.Nat.{ℕ, _≤_, _<_}
+use lib.Dec.{ltb, ltb→lt}
 use borrow.Author.Tests.{lt-ltb, le-ltb, eq-eqb, ne-eqb}
-use Rattle.lists.specs.Choice.{require, on-yes, on-no}
+use Rattle.lists.specs.Choice.{on-yes, on-no}
 use Rattle.lists.specs.Tests.{and-left, and-right, true-T}
 use Rattle.protocol.specs.declared.Answer.the-variants.{Quiet}
 use Rattle.protocol.specs.declared.Route.the-variants.{To}
 use Rattle.protocol.specs.declared.Decision.the-variants.{Send}
-use Rattle.protocol.specs.Names.{JOIN, LEAVEREQ}
-use Rattle.protocol.specs.Record.{mostMessages, State, count, countIn, messagesIn, askedIn, messageStart, messageFrom, row, identifier, message, read, sent, ticketed}
+use Rattle.protocol.specs.Names.{JOIN, LEAVEREQ, LAST-HUB, LOCKED, MESSAGES-FULL, NO-HUB, NO-MESSAGE, NOT-IN-RING, NOT-OUTSIDE, OUTSIDE, TICKETS-USED-UP}
+use Rattle.protocol.specs.Record.{mostMessages, State, count, countIn, messagesIn, askedIn, row, identifier, read, sent, ticketed}
 use Rattle.protocol.specs.Routing.{inRing, onward}
-use Rattle.protocol.specs.Kinds.{question, note, withState, withLock, handle}
-use Rattle.protocol.specs.Step.{Result, refused, accepted, conclude, room, asking, ask, join, leave, oldest, delivered, deliver}
-use Rattle.layout.specs.Words.{count-of-read, messages-of-read, message-of-read}
+use Rattle.protocol.specs.Kinds.{question, note, withState, withLock}
+use Rattle.protocol.specs.Step.{refused, accepted, conclude, room, asking, ask, join, leave, oldest, delivered, deliver}
+use Rattle.layout.specs.Words.{count-of-read, messages-of-read}
 
 module _ (w : List ℕ) where
   abbrev s : State
@@ -63,15 +62,15 @@ module _ (w : List ℕ) where
 
   -- ask
   module _ (x v : ℕ) where
-    pub ask-4 : n ≤ x → ask s x v ≡ refused 4
+    pub ask-4 : n ≤ x → ask s x v ≡ refused NO-HUB
     unfolding ask
     ask-4 l = on-no _ _ _ (node-no x l)
 
-    pub ask-5 : x < n → inRing (row s x) ≡ false → ask s x v ≡ refused 5
+    pub ask-5 : x < n → inRing (row s x) ≡ false → ask s x v ≡ refused NOT-IN-RING
     unfolding ask
     ask-5 l r = on-yes _ _ _ (node-yes x l) ∙ on-no _ _ _ r
 
-    pub ask-12 : x < n → inRing (row s x) ≡ true → 4294967295 ≤ askedIn w → ask s x v ≡ refused 12
+    pub ask-12 : x < n → inRing (row s x) ≡ true → 4294967295 ≤ askedIn w → ask s x v ≡ refused TICKETS-USED-UP
     unfolding ask
     ask-12 l r a = on-yes _ _ _ (node-yes x l) ∙ on-yes _ _ _ r ∙ on-no _ _ _ (asked-no a)
 
@@ -79,7 +78,7 @@ module _ (w : List ℕ) where
     unfolding ask
     ask-routed l r a = on-yes _ _ _ (node-yes x l) ∙ on-yes _ _ _ r ∙ on-yes _ _ _ (asked-yes a)
 
-    pub asking-11 : (z : ℕ) → mostMessages ≤ m → asking s x v (To z) ≡ refused 11
+    pub asking-11 : (z : ℕ) → mostMessages ≤ m → asking s x v (To z) ≡ refused MESSAGES-FULL
     unfolding asking
     asking-11 z l = on-no _ _ _ (room-no l)
 
@@ -89,46 +88,46 @@ module _ (w : List ℕ) where
 
   -- join
   module _ (x y : ℕ) where
-    pub join-4 : (ltb x n && ltb y n) ≡ false → join s x y ≡ refused 4
+    pub join-4 : (ltb x n && ltb y n) ≡ false → join s x y ≡ refused NO-HUB
     unfolding join
     join-4 t = on-no _ _ _ (nodes-are x y false t)
 
-    pub join-6 : (ltb x n && ltb y n) ≡ true → (row s x .state ≡ 0 → ⊥) → join s x y ≡ refused 6
+    pub join-6 : (ltb x n && ltb y n) ≡ true → (row s x .state ≡ OUTSIDE → ⊥) → join s x y ≡ refused NOT-OUTSIDE
     unfolding join
     join-6 t e = on-yes _ _ _ (nodes-are x y true t) ∙ on-no _ _ _ (ne-eqb _ 0 e)
 
-    pub join-5 : (ltb x n && ltb y n) ≡ true → row s x .state ≡ 0 → inRing (row s y) ≡ false → join s x y ≡ refused 5
+    pub join-5 : (ltb x n && ltb y n) ≡ true → row s x .state ≡ OUTSIDE → inRing (row s y) ≡ false → join s x y ≡ refused NOT-IN-RING
     unfolding join
     join-5 t e r = on-yes _ _ _ (nodes-are x y true t) ∙ on-yes _ _ _ (eq-eqb _ 0 e) ∙ on-no _ _ _ r
 
-    pub join-11 : (ltb x n && ltb y n) ≡ true → row s x .state ≡ 0 → inRing (row s y) ≡ true → mostMessages ≤ m → join s x y ≡ refused 11
+    pub join-11 : (ltb x n && ltb y n) ≡ true → row s x .state ≡ OUTSIDE → inRing (row s y) ≡ true → mostMessages ≤ m → join s x y ≡ refused MESSAGES-FULL
     unfolding join
     join-11 t e r l = on-yes _ _ _ (nodes-are x y true t) ∙ on-yes _ _ _ (eq-eqb _ 0 e) ∙ on-yes _ _ _ r ∙ on-no _ _ _ (room-no l)
 
-    pub join-sent : (ltb x n && ltb y n) ≡ true → row s x .state ≡ 0 → inRing (row s y) ≡ true → m < mostMessages
+    pub join-sent : (ltb x n && ltb y n) ≡ true → row s x .state ≡ OUTSIDE → inRing (row s y) ≡ true → m < mostMessages
         → join s x y ≡ conclude s x (Send (withLock (withState (row s x) 1) 1) (note JOIN x y x) Quiet)
     unfolding join
     join-sent t e r l = on-yes _ _ _ (nodes-are x y true t) ∙ on-yes _ _ _ (eq-eqb _ 0 e) ∙ on-yes _ _ _ r ∙ on-yes _ _ _ (room-yes l)
 
   -- leave
   module _ (x : ℕ) where
-    pub leave-4 : n ≤ x → leave s x ≡ refused 4
+    pub leave-4 : n ≤ x → leave s x ≡ refused NO-HUB
     unfolding leave
     leave-4 l = on-no _ _ _ (node-no x l)
 
-    pub leave-5 : x < n → inRing (row s x) ≡ false → leave s x ≡ refused 5
+    pub leave-5 : x < n → inRing (row s x) ≡ false → leave s x ≡ refused NOT-IN-RING
     unfolding leave
     leave-5 l r = on-yes _ _ _ (node-yes x l) ∙ on-no _ _ _ r
 
-    pub leave-7 : x < n → inRing (row s x) ≡ true → (row s x .lock ≡ 0 → ⊥) → leave s x ≡ refused 7
+    pub leave-7 : x < n → inRing (row s x) ≡ true → (row s x .lock ≡ 0 → ⊥) → leave s x ≡ refused LOCKED
     unfolding leave
     leave-7 l r k = on-yes _ _ _ (node-yes x l) ∙ on-yes _ _ _ r ∙ on-no _ _ _ (ne-eqb _ 0 k)
 
-    pub leave-8 : x < n → inRing (row s x) ≡ true → row s x .lock ≡ 0 → row s x .succ ≡ x → leave s x ≡ refused 8
+    pub leave-8 : x < n → inRing (row s x) ≡ true → row s x .lock ≡ 0 → row s x .succ ≡ x → leave s x ≡ refused LAST-HUB
     unfolding leave
     leave-8 l r k e = on-yes _ _ _ (node-yes x l) ∙ on-yes _ _ _ r ∙ on-yes _ _ _ (eq-eqb _ 0 k) ∙ on-no _ _ _ (ap not (eq-eqb _ x e))
 
-    pub leave-11 : x < n → inRing (row s x) ≡ true → row s x .lock ≡ 0 → (row s x .succ ≡ x → ⊥) → mostMessages ≤ m → leave s x ≡ refused 11
+    pub leave-11 : x < n → inRing (row s x) ≡ true → row s x .lock ≡ 0 → (row s x .succ ≡ x → ⊥) → mostMessages ≤ m → leave s x ≡ refused MESSAGES-FULL
     unfolding leave
     leave-11 l r k e f =
         on-yes _ _ _ (node-yes x l) ∙ on-yes _ _ _ r ∙ on-yes _ _ _ (eq-eqb _ 0 k) ∙ on-yes _ _ _ (ap not (ne-eqb _ x e)) ∙ on-no _ _ _ (room-no f)
@@ -141,11 +140,11 @@ module _ (w : List ℕ) where
 
   -- deliver
   module _ (x y : ℕ) where
-    pub deliver-4 : (ltb x n && ltb y n) ≡ false → deliver s x y ≡ refused 4
+    pub deliver-4 : (ltb x n && ltb y n) ≡ false → deliver s x y ≡ refused NO-HUB
     unfolding deliver
     deliver-4 t = on-no _ _ _ (nodes-are x y false t)
 
-    pub deliver-9 : (ltb x n && ltb y n) ≡ true → m ≤ oldest s x y → deliver s x y ≡ refused 9
+    pub deliver-9 : (ltb x n && ltb y n) ≡ true → m ≤ oldest s x y → deliver s x y ≡ refused NO-MESSAGE
     unfolding deliver
     deliver-9 t l = on-yes _ _ _ (nodes-are x y true t) ∙ on-no _ _ _ (ap (ltb (oldest s x y)) (messages-of-read w) ∙ le-ltb (oldest s x y) m l)
 

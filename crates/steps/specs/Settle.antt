@@ -1,19 +1,16 @@
 -- What the edits of a step do to the words, and that this is the step of the state. Assumes nothing.
-use mathlib.Core.Path.{_≡_, refl, sym, _∙_, ap, subst}
+use mathlib.Core.Path.{_≡_, refl, sym, _∙_, ap}
 use mathlib.Core.List.{List, _++_}
-use Prim.Native.Nat.{ℕ, suc, _+_, _-_, _≤_, _<_}
+use Prim.Native.Nat.{ℕ, _+_, _-_, _≤_, _<_}
 use native.Mathlib.Omega.{arith}
-use native.Mathlib.Numerals.{add-one}
 use lib.ListN.{length, set, take, drop, length-append, length-take, length-drop, length-set}
 use Rattle.protocol.specs.declared.Row.{Row}
 use Rattle.protocol.specs.declared.Message.{Message}
-use Rattle.protocol.specs.declared.Answer.{Answer}
-use Rattle.protocol.specs.declared.Answer.the-variants.{Quiet, Found}
 use Rattle.protocol.specs.declared.Outcome.the-variants.{Answered}
 use Rattle.protocol.specs.declared.Decision.{Decision}
 use Rattle.protocol.specs.declared.Decision.the-variants.{Refuse, Reply, Send}
-use Rattle.protocol.specs.Record.{mostNodes, mostMessages, recordSize, State, count, countIn, messagesIn, askedIn, words, read, withRow, sent, taken, ticketed}
-use Rattle.protocol.specs.Step.{Result, accepted, conclude}
+use Rattle.protocol.specs.Record.{mostNodes, mostMessages, recordSize, State, count, countIn, messagesIn, askedIn, words, read, withRow, sent, withoutMessage, ticketed}
+use Rattle.protocol.specs.Step.{conclude}
 use Rattle.protocol.specs.Calls.{Called, turnedDown, written}
 use Rattle.layout.specs.Words.{count-of-read, messages-of-read}
 use Rattle.layout.specs.Form.{Valid, valid-words}
@@ -38,8 +35,8 @@ module _ (s : State) (tail : List ℕ) (few : count s ≤ mostNodes) where
       ap (λ w. pushed w (length (s .messages)) u) (put-row-is s tail t h lt)
       ∙ push-is (withRow s t h) tail (rw length-set few) u lm
 
-  taken-length : (j : ℕ) → j < length (s .messages) → length (taken s j .messages) ≡ length (s .messages) - 1
-  taken-length j h =
+  without-length : (j : ℕ) → j < length (s .messages) → length (withoutMessage s j .messages) ≡ length (s .messages) - 1
+  without-length j h =
       length-append (take j (s .messages)) (drop (j + 1) (s .messages))
       ∙ omega (arith, length-take j (s .messages), length-drop (j + 1) (s .messages))
 
@@ -58,7 +55,7 @@ settled-is w v t (Send h u a) lt lm =
     ∙ row-sent (read w) (drop recordSize w) (omega (arith, v .nodes, count-of-read w)) t h u (omega (arith, count-of-read w)) (omega (arith, messages-of-read w)))
 
 -- message j taken out of the words
-without : (w : List ℕ) → Valid w → (j : ℕ) → j < messagesIn w → removed w (messagesIn w) j ≡ words (taken (read w) j) ++ drop recordSize w
+without : (w : List ℕ) → Valid w → (j : ℕ) → j < messagesIn w → removed w (messagesIn w) j ≡ words (withoutMessage (read w) j) ++ drop recordSize w
 without w v j l =
     ap (λ z. removed z (messagesIn w) j) (valid-words w v)
     ∙ ap (λ z. removed (words (read w) ++ drop recordSize w) z j) (sym (messages-of-read w))
@@ -66,19 +63,19 @@ without w v j l =
 
 -- A decision of a delivery: message j is taken out.
 pub settled-without-is : (w : List ℕ) → Valid w → (j t : ℕ) (d : Decision) → j < messagesIn w → t < countIn w
-    → settledWithout w (messagesIn w) j t d ≡ written w (conclude (taken (read w) j) t d)
+    → settledWithout w (messagesIn w) j t d ≡ written w (conclude (withoutMessage (read w) j) t d)
 unfolding settledWithout conclude written
 settled-without-is w v j t (Refuse k) lj lt = refl
 settled-without-is w v j t (Reply h a) lj lt =
     ap (λ z. record { outcome = Answered a; slice = z })
-    (ap (λ z. rowPut z t h) (without w v j lj) ∙ put-row-is (taken (read w) j) (drop recordSize w) t h (omega (arith, count-of-read w)))
+    (ap (λ z. rowPut z t h) (without w v j lj) ∙ put-row-is (withoutMessage (read w) j) (drop recordSize w) t h (omega (arith, count-of-read w)))
 settled-without-is w v j t (Send h u a) lj lt =
     ap (λ z. record { outcome = Answered a; slice = z })
     (ap (λ z. pushed (rowPut z t h) (messagesIn w - 1) u) (without w v j lj)
-    ∙ ap (λ z. pushed (rowPut (words (taken (read w) j) ++ drop recordSize w) t h) z u)
-    (sym (taken-length (read w) (drop recordSize w) few j (omega (arith, messages-of-read w)) ∙ ap (λ z. z - 1) (messages-of-read w)))
-    ∙ row-sent (taken (read w) j) (drop recordSize w) few t h u (omega (arith, count-of-read w))
-    (omega (arith, taken-length (read w) (drop recordSize w) few j (omega (arith, messages-of-read w)), messages-of-read w, v .waiting)))
+    ∙ ap (λ z. pushed (rowPut (words (withoutMessage (read w) j) ++ drop recordSize w) t h) z u)
+    (sym (without-length (read w) (drop recordSize w) few j (omega (arith, messages-of-read w)) ∙ ap (λ z. z - 1) (messages-of-read w)))
+    ∙ row-sent (withoutMessage (read w) j) (drop recordSize w) few t h u (omega (arith, count-of-read w))
+    (omega (arith, without-length (read w) (drop recordSize w) few j (omega (arith, messages-of-read w)), messages-of-read w, v .waiting)))
   where
     few : count (read w) ≤ mostNodes
     few = omega (arith, v .nodes, count-of-read w)

@@ -3,6 +3,7 @@ use protocol::Answer;
 use protocol::Outcome;
 use protocol::Route;
 use protocol::form::MOST_MESSAGES;
+use protocol::refusals;
 use routing::in_ring;
 use routing::onward;
 use routing::question;
@@ -36,7 +37,7 @@ fn asking(w: &mut [u32], x: u32, v: u32, way: Route) -> Outcome
                 w[3] = ticket + 1;
                 return Outcome::Answered(Answer::Quiet);
             }
-            Outcome::Refused(11)
+            Outcome::Refused(refusals::MESSAGES_FULL)
         }
     }
 }
@@ -46,15 +47,15 @@ pub(crate) fn ask(w: &mut [u32], x: u32, v: u32) -> Outcome
     ensures { λ r. ⌜ written (now (w .entry)) (askSpec (read (now (w .entry))) x v) ≡ record { outcome = r; slice = now (w .exit) } ⌝ }
 {
     if w[1] <= x {
-        return Outcome::Refused(4);
+        return Outcome::Refused(refusals::NO_HUB);
     }
     let h = record::row_of(w, x);
     if !in_ring(h) {
-        return Outcome::Refused(5);
+        return Outcome::Refused(refusals::NOT_IN_RING);
     }
     if w[3] < 4294967295 {
         let p = record::identifier_of(w, h.pred);
         return asking(w, x, v, onward(p, h, v));
     }
-    Outcome::Refused(12)
+    Outcome::Refused(refusals::TICKETS_USED_UP)
 }

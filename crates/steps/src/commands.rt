@@ -9,6 +9,8 @@ use protocol::form::MESSAGE_WORDS;
 use protocol::form::MESSAGES_AT;
 use protocol::form::MOST_MESSAGES;
 use protocol::kinds;
+use protocol::refusals;
+use protocol::states;
 use routing::in_ring;
 use routing::note;
 ghost use mathlib.Core.Path.{_≡_};
@@ -25,17 +27,17 @@ pub(crate) fn join(w: &mut [u32], x: u32, y: u32) -> Outcome
     let n = w[1];
     let m = w[2];
     if !both(x < n, y < n) {
-        return Outcome::Refused(4);
+        return Outcome::Refused(refusals::NO_HUB);
     }
     let mut h = record::row_of(w, x);
-    if h.state != 0 {
-        return Outcome::Refused(6);
+    if h.state != states::OUTSIDE {
+        return Outcome::Refused(refusals::NOT_OUTSIDE);
     }
     if !in_ring(record::row_of(w, y)) {
-        return Outcome::Refused(5);
+        return Outcome::Refused(refusals::NOT_IN_RING);
     }
     if m < MOST_MESSAGES {
-        h.state = 1;
+        h.state = states::JOINING;
         h.lock = 1;
         return settle(
             w,
@@ -44,7 +46,7 @@ pub(crate) fn join(w: &mut [u32], x: u32, y: u32) -> Outcome
             Decision::Send(h, note(kinds::JOIN, x, y, x), Answer::Quiet),
         );
     }
-    Outcome::Refused(11)
+    Outcome::Refused(refusals::MESSAGES_FULL)
 }
 
 // 'x gets state 3, locked; sends LEAVEREQ to its succ.'
@@ -54,20 +56,20 @@ pub(crate) fn leave(w: &mut [u32], x: u32) -> Outcome
 {
     let m = w[2];
     if w[1] <= x {
-        return Outcome::Refused(4);
+        return Outcome::Refused(refusals::NO_HUB);
     }
     let mut h = record::row_of(w, x);
     if !in_ring(h) {
-        return Outcome::Refused(5);
+        return Outcome::Refused(refusals::NOT_IN_RING);
     }
     if h.lock != 0 {
-        return Outcome::Refused(7);
+        return Outcome::Refused(refusals::LOCKED);
     }
     if h.succ == x {
-        return Outcome::Refused(8);
+        return Outcome::Refused(refusals::LAST_HUB);
     }
     if m < MOST_MESSAGES {
-        h.state = 3;
+        h.state = states::WANTING_TO_LEAVE;
         h.lock = 1;
         return settle(
             w,
@@ -76,7 +78,7 @@ pub(crate) fn leave(w: &mut [u32], x: u32) -> Outcome
             Decision::Send(h, note(kinds::LEAVEREQ, x, h.succ, 0), Answer::Quiet),
         );
     }
-    Outcome::Refused(11)
+    Outcome::Refused(refusals::MESSAGES_FULL)
 }
 
 // 'the oldest message with that from and to', at its receiver.
@@ -87,7 +89,7 @@ pub(crate) fn deliver(w: &mut [u32], x: u32, y: u32) -> Outcome
     let n = w[1];
     let m = w[2];
     if !both(x < n, y < n) {
-        return Outcome::Refused(4);
+        return Outcome::Refused(refusals::NO_HUB);
     }
     let j = record::find(w, x, y);
     if j < m {
@@ -97,5 +99,5 @@ pub(crate) fn deliver(w: &mut [u32], x: u32, y: u32) -> Outcome
         let g = record::row_of(w, u.a);
         return settle_without(w, m, j, y, handlers::handle(p, h, g, u));
     }
-    Outcome::Refused(9)
+    Outcome::Refused(refusals::NO_MESSAGE)
 }

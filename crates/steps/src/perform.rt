@@ -4,6 +4,7 @@ use crate::commands::join;
 use crate::commands::leave;
 use protocol::Outcome;
 use protocol::form::RECORD_WORDS;
+use protocol::refusals;
 ghost use mathlib.Core.Path.{_≡_};
 ghost use Rattle.protocol.specs.Record.{read};
 ghost use Rattle.protocol.specs.Step.{step as stepSpec};
@@ -20,7 +21,7 @@ fn run(w: &mut [u32], operation: u32, x: u32, y: u32) -> Outcome
         1 => join(w, x, y),
         2 => leave(w, x),
         3 => deliver(w, x, y),
-        _ => Outcome::Refused(3),
+        _ => Outcome::Refused(refusals::NO_OPERATION),
     }
 }
 
@@ -30,10 +31,10 @@ pub fn step(w: &mut [u32], operation: u32, x: u32, y: u32) -> Outcome
     ensures { λ r. ⌜ stepCall (now (w .entry)) operation x y ≡ record { outcome = r; slice = now (w .exit) } ⌝ }
 {
     if w.len() < RECORD_WORDS {
-        return Outcome::Refused(1);
+        return Outcome::Refused(refusals::RECORD_SHORT);
     }
     if !wellformed::well_formed(w) {
-        return Outcome::Refused(2);
+        return Outcome::Refused(refusals::NOT_WELL_FORMED);
     }
     run(w, operation, x, y)
 }

@@ -1,9 +1,10 @@
 use protocol::Answer;
 use protocol::Outcome;
 use protocol::Tally;
+use protocol::answer_kinds;
 ghost use mathlib.Core.Path.{_≡_};
 ghost use lib.Dec.{eqb};
-ghost use Rattle.lists.specs.Choice.{if_then_else_};
+ghost use Rattle.lists.specs.Basics.{if_then_else_};
 ghost use Rattle.protocol.specs.Answers.{kindOf, raised, countOf, raisedAt, counted as countedSpec};
 
 // 'adds 1 to one of them; a count at 18446744073709551615 stays.'
@@ -21,19 +22,19 @@ fn kind_of(a: Answer) -> u32
     ensures { λ r. ⌜ r ≡ kindOf a ⌝ }
 {
     match a {
-        Answer::Quiet => 0,
+        Answer::Quiet => answer_kinds::QUIET,
         Answer::Found {
             hub: _,
             number: _,
             ticket: _,
             hops: _,
-        } => 1,
-        Answer::Entered(_) => 2,
-        Answer::Gone(_) => 3,
-        Answer::JoinTurnedAway(_) => 4,
-        Answer::LeaveTurnedAway(_) => 5,
-        Answer::Joined(_) => 6,
-        Answer::Left(_) => 7,
+        } => answer_kinds::FOUND,
+        Answer::Entered(_) => answer_kinds::ENTERED,
+        Answer::Gone(_) => answer_kinds::GONE,
+        Answer::JoinTurnedAway(_) => answer_kinds::JOIN_TURNED_AWAY,
+        Answer::LeaveTurnedAway(_) => answer_kinds::LEAVE_TURNED_AWAY,
+        Answer::Joined(_) => answer_kinds::JOINED,
+        Answer::Left(_) => answer_kinds::LEFT,
     }
 }
 
@@ -42,7 +43,7 @@ fn count_of(o: Outcome) -> u32
     ensures { λ r. ⌜ r ≡ countOf o ⌝ }
 {
     match o {
-        Outcome::Refused(_) => 8,
+        Outcome::Refused(_) => answer_kinds::REFUSAL,
         Outcome::Answered(a) => kind_of(a),
     }
 }
@@ -62,15 +63,15 @@ fn raised_at(k: u32, t: Tally) -> Tally
     ensures { λ r. ⌜ r ≡ raisedAt k t ⌝ }
 {
     Tally {
-        quiet: count_at(k, 0, t.quiet),
-        found: count_at(k, 1, t.found),
-        entered: count_at(k, 2, t.entered),
-        gone: count_at(k, 3, t.gone),
-        join_turned_away: count_at(k, 4, t.join_turned_away),
-        leave_turned_away: count_at(k, 5, t.leave_turned_away),
-        joined: count_at(k, 6, t.joined),
-        left: count_at(k, 7, t.left),
-        refused: count_at(k, 8, t.refused),
+        quiet: count_at(k, answer_kinds::QUIET, t.quiet),
+        found: count_at(k, answer_kinds::FOUND, t.found),
+        entered: count_at(k, answer_kinds::ENTERED, t.entered),
+        gone: count_at(k, answer_kinds::GONE, t.gone),
+        join_turned_away: count_at(k, answer_kinds::JOIN_TURNED_AWAY, t.join_turned_away),
+        leave_turned_away: count_at(k, answer_kinds::LEAVE_TURNED_AWAY, t.leave_turned_away),
+        joined: count_at(k, answer_kinds::JOINED, t.joined),
+        left: count_at(k, answer_kinds::LEFT, t.left),
+        refused: count_at(k, answer_kinds::REFUSAL, t.refused),
     }
 }
 

@@ -8,9 +8,8 @@ use lib.Bits.{bitOr}
 use lib.Dec.{T, leb, ltb, eqb, eqb→eq}
 use lib.ListN.{length, getD, take, drop, length-drop, take-append-drop}
 use lib.Seq.{length-take-le, take-add, take-length}
-use Rattle.lists.specs.Choice.{if_then_else_}
-use Rattle.lists.specs.Tests.{and-true, and-false, every, distinct, true-T, says-same, says-so, says-as, says-and, says-eq, says-le}
-use Rattle.lists.specs.Blocks.{table}
+use Rattle.lists.specs.Basics.{if_then_else_, every, distinct, table}
+use Rattle.lists.specs.Tests.{and-true, and-false, true-T, says-same, says-so, says-as, says-and, says-eq, says-le}
 use Rattle.lists.specs.Merge.{merged, or-test, every-append, merged-test, merged-zero, merged-zeros, failure-test, when-test}
 use Rattle.protocol.specs.declared.Message.{Message}
 use Rattle.protocol.specs.Names.{LOOKUP}

@@ -6,9 +6,7 @@ ghost use mathlib.Core.Bool.{_&&_};
 ghost use Prim.Native.Nat.{_+_, _≤_, _<_};
 ghost use lib.Dec.{eqb};
 ghost use lib.ListN.{length, getD};
-ghost use Rattle.lists.specs.Choice.{if_then_else_};
-ghost use Rattle.lists.specs.Tests.{distinct};
-ghost use Rattle.lists.specs.Blocks.{table};
+ghost use Rattle.lists.specs.Basics.{if_then_else_, distinct, table};
 ghost use Rattle.lists.specs.Merge.{merged, unlike, unlikeAll, allUnlike};
 
 // 1 where y is one of the four.

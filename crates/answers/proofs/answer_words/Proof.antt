@@ -31,7 +31,7 @@ enum-known-a-7 c = search needs
 
 returns : tie.Need-returns
 unfolding answerWords
-returns c = search needs
+returns c = simp (c .enum-told .given .1)
 
 returns-2 : tie.Need-returns-2
 unfolding answerWords

@@ -3,7 +3,7 @@ use mathlib.Core.Path.{sym, _∙_}
 use native.Mathlib.Omega.{arith}
 use lib.ListN.{length}
 use borrow.Author.Tests.{eq-eqb, ne-eqb, lt-leb, le-leb, not-true, not-false}
-use Rattle.lists.specs.Choice.{if_then_else_, require}
+use Rattle.lists.specs.Basics.{if_then_else_, require}
 use Rattle.protocol.specs.Calls.{long, written, freshCall}
 use Rattle.founding.specs.Laws.{differ, some-few}
 use borrow.Author.Needs.{needs}

@@ -1,6 +1,6 @@
 -- `handle`: the kind decides the definition, and the handler's own equation is the rest. Assumes nothing.
 use borrow.Author.Tests.{ne-eqb}
-use Rattle.lists.specs.Choice.{if_then_else_}
+use Rattle.lists.specs.Basics.{if_then_else_}
 use Rattle.protocol.specs.Kinds.{handle}
 use Rattle.handlers.proofs.handle.Statement.{statement}
 use Rattle.handlers.proofs.handle.Tie as tie

@@ -1,6 +1,6 @@
 -- `join`: at each return the tests on the way decide the definition. Assumes nothing.
 use borrow.Author.Tests.{ne-eqb, lt-ltb, le-ltb}
-use Rattle.lists.specs.Choice.{if_then_else_}
+use Rattle.lists.specs.Basics.{if_then_else_}
 use Rattle.protocol.specs.Kinds.{join}
 use Rattle.joins.proofs.join.Statement.{statement}
 use Rattle.joins.proofs.join.Tie as tie

@@ -1,6 +1,6 @@
 -- `join_done`: at each return the tests on the way decide the definition. Assumes nothing.
 use borrow.Author.Tests.{eq-eqb, ne-eqb}
-use Rattle.lists.specs.Choice.{if_then_else_}
+use Rattle.lists.specs.Basics.{if_then_else_}
 use Rattle.protocol.specs.Kinds.{joinDone}
 use Rattle.joins.proofs.join_done.Statement.{statement}
 use Rattle.joins.proofs.join_done.Tie as tie

@@ -1,6 +1,6 @@
 -- `join_point`: at each return the tests on the way decide the definition. Assumes nothing.
 use borrow.Author.Tests.{ne-eqb}
-use Rattle.lists.specs.Choice.{if_then_else_}
+use Rattle.lists.specs.Basics.{if_then_else_}
 use Rattle.protocol.specs.Kinds.{joinPoint}
 use Rattle.joins.proofs.join_point.Statement.{statement}
 use Rattle.joins.proofs.join_point.Tie as tie

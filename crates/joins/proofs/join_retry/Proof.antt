@@ -1,6 +1,6 @@
 -- `join_retry`: at each return the tests on the way decide the definition. Assumes nothing.
 use borrow.Author.Tests.{ne-eqb}
-use Rattle.lists.specs.Choice.{if_then_else_}
+use Rattle.lists.specs.Basics.{if_then_else_}
 use Rattle.protocol.specs.Kinds.{joinRetry}
 use Rattle.joins.proofs.join_retry.Statement.{statement}
 use Rattle.joins.proofs.join_retry.Tie as tie

@@ -1,6 +1,6 @@
 -- `join_routed`: the definition at each of the two ways, and for an owner by its lock. Assumes nothing.
 use borrow.Author.Tests.{eq-eqb, ne-eqb}
-use Rattle.lists.specs.Choice.{if_then_else_}
+use Rattle.lists.specs.Basics.{if_then_else_}
 use Rattle.protocol.specs.Kinds.{joinRouted}
 use Rattle.joins.proofs.join_routed.Statement.{statement}
 use Rattle.joins.proofs.join_routed.Tie as tie

@@ -1,6 +1,6 @@
 -- `new_succ`: at each return the tests on the way decide the definition. Assumes nothing.
 use borrow.Author.Tests.{lt-ltb, lt-leb, le-leb, le-ltb}
-use Rattle.lists.specs.Choice.{if_then_else_}
+use Rattle.lists.specs.Basics.{if_then_else_}
 use Rattle.protocol.specs.Routing.{responsible}
 use Rattle.protocol.specs.Kinds.{newSucc}
 use Rattle.joins.proofs.new_succ.Statement.{statement}

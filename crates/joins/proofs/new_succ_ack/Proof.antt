@@ -1,6 +1,6 @@
 -- `new_succ_ack`: at each return the tests on the way decide the definition. Assumes nothing.
 use borrow.Author.Tests.{eq-eqb, ne-eqb}
-use Rattle.lists.specs.Choice.{if_then_else_}
+use Rattle.lists.specs.Basics.{if_then_else_}
 use Rattle.protocol.specs.Kinds.{newSuccAck}
 use Rattle.joins.proofs.new_succ_ack.Statement.{statement}
 use Rattle.joins.proofs.new_succ_ack.Tie as tie

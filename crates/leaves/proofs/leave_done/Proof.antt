@@ -1,6 +1,6 @@
 -- `leave_done`: at each return the tests on the way decide the definition. Assumes nothing.
 use borrow.Author.Tests.{eq-eqb, ne-eqb}
-use Rattle.lists.specs.Choice.{if_then_else_}
+use Rattle.lists.specs.Basics.{if_then_else_}
 use Rattle.protocol.specs.Kinds.{leaveDone}
 use Rattle.leaves.proofs.leave_done.Statement.{statement}
 use Rattle.leaves.proofs.leave_done.Tie as tie

@@ -1,6 +1,6 @@
 -- `leave_grant`: at each return the tests on the way decide the definition. Assumes nothing.
 use borrow.Author.Tests.{ne-eqb}
-use Rattle.lists.specs.Choice.{if_then_else_}
+use Rattle.lists.specs.Basics.{if_then_else_}
 use Rattle.protocol.specs.Kinds.{leaveGrant}
 use Rattle.leaves.proofs.leave_grant.Statement.{statement}
 use Rattle.leaves.proofs.leave_grant.Tie as tie

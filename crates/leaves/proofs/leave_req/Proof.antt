@@ -1,6 +1,8 @@
 -- `leave_req`: at each return the tests on the way decide the definition. Assumes nothing.
-use borrow.Author.Tests.{eq-eqb, ne-eqb, lt-ltb, lt-leb, le-leb, le-ltb}
-use Rattle.lists.specs.Choice.{if_then_else_}
+use borrow.Author.Tests.{eq-eqb, ne-eqb, lt-leb, le-leb}
+use Rattle.lists.specs.Basics.{if_then_else_}
+use Rattle.lists.specs.Tests.{before-next, not-before-next}
+use Rattle.protocol.specs.Names.{LEAVING}
 use Rattle.protocol.specs.Routing.{inRing}
 use Rattle.protocol.specs.Kinds.{leaveReq}
 use Rattle.leaves.proofs.leave_req.Statement.{statement}
@@ -15,7 +17,7 @@ returns c =
     simp (
       c .note .ensures,
       eq-eqb _ _ (c .before .if3 .taken),
-      lt-ltb _ _ (c .before .before .before .if2 .taken),
+      before-next _ LEAVING (c .before .before .before .if2 .taken),
       le-leb _ _ (c .before .before .before .before .if1 .left),
     )
 
@@ -28,7 +30,7 @@ returns-2 c =
     simp (
       c .note2 .ensures,
       ne-eqb _ _ (c .before .if3 .left),
-      lt-ltb _ _ (c .before .before .before .if2 .taken),
+      before-next _ LEAVING (c .before .before .before .if2 .taken),
       le-leb _ _ (c .before .before .before .before .if1 .left),
     )
 
@@ -38,7 +40,7 @@ returns-3 c = simp (lt-leb _ _ (c .if1 .taken))
 
 returns-4 : tie.Need-returns-4
 unfolding leaveReq inRing if_then_else_
-returns-4 c = simp (le-ltb _ _ (c .if2 .left), le-leb _ _ (c .before .if1 .left))
+returns-4 c = simp (not-before-next _ LEAVING (c .if2 .left), le-leb _ _ (c .before .if1 .left))
 
 pub leave-req-spec : {M : Type 1} → statement M
 leave-req-spec =

@@ -1,6 +1,6 @@
 -- `leave_retry`: at each return the tests on the way decide the definition. Assumes nothing.
 use borrow.Author.Tests.{ne-eqb}
-use Rattle.lists.specs.Choice.{if_then_else_}
+use Rattle.lists.specs.Basics.{if_then_else_}
 use Rattle.protocol.specs.Kinds.{leaveRetry}
 use Rattle.leaves.proofs.leave_retry.Statement.{statement}
 use Rattle.leaves.proofs.leave_retry.Tie as tie

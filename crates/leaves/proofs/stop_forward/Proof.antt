@@ -1,6 +1,6 @@
 -- `stop_forward`: at each return the tests on the way decide the definition. Assumes nothing.
 use borrow.Author.Tests.{ne-eqb}
-use Rattle.lists.specs.Choice.{if_then_else_}
+use Rattle.lists.specs.Basics.{if_then_else_}
 use Rattle.protocol.specs.Kinds.{stopForward}
 use Rattle.leaves.proofs.stop_forward.Statement.{statement}
 use Rattle.leaves.proofs.stop_forward.Tie as tie

@@ -1,6 +1,6 @@
 -- `pick`: the test decides the choice. Assumes nothing.
 use borrow.Author.Needs.{needs}
-use Rattle.lists.specs.Choice.{if_then_else_}
+use Rattle.lists.specs.Basics.{if_then_else_}
 use Rattle.lists.proofs.pick.Statement.{statement}
 use Rattle.lists.proofs.pick.Tie as tie
 

@@ -1,6 +1,6 @@
 -- `when`: the test decides. Assumes nothing.
 use borrow.Author.Needs.{needs}
-use Rattle.lists.specs.Choice.{if_then_else_}
+use Rattle.lists.specs.Basics.{if_then_else_}
 use Rattle.lists.proofs.when.Statement.{statement}
 use Rattle.lists.proofs.when.Tie as tie
 

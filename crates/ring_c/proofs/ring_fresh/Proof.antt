@@ -4,11 +4,13 @@ use Prim.Native.Nat.{ℕ, _/_}
 use lib.ListN.{length, replicate, length-replicate}
 use Rattle.lists.specs.Blocks.{length-table}
 use native.Mathlib.Omega.{arith}
-use Rattle.lists.specs.Members.{All, all-at}
-use Rattle.ring_c.specs.Carry.{Byte, wordAt}
+use Rattle.lists.specs.Basics.{All}
+use Rattle.lists.specs.Members.{all-at}
+use Rattle.ring_c.specs.Carry.{wordAt}
 use Rattle.ring_c.specs.Results.{fresh-1, fresh-13, fresh-rest}
 use borrow.Author.Needs.{needs}
 use Rattle.ring_c.proofs.ring_fresh.Statement.{statement}
+use Rattle.protocol.specs.Bytes.{Byte}
 use Rattle.ring_c.proofs.ring_fresh.Tie as tie
 use Rattle.ring_c.proofs.ring_fresh.Lts as lts
 

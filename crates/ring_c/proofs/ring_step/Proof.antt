@@ -1,8 +1,9 @@
 -- `ring_step` meets its contract: the bytes' words are the record and what is behind it, the step on the record is the step on all, and writing the record back is writing all back. Assumes nothing.
 use mathlib.Core.Path.{_∙_}
 use native.Mathlib.Omega.{arith}
-use Rattle.lists.specs.Members.{All, all-at}
-use Rattle.ring_c.specs.Carry.{Byte}
+use Rattle.lists.specs.Basics.{All}
+use Rattle.lists.specs.Members.{all-at}
+use Rattle.protocol.specs.Bytes.{Byte}
 use Rattle.ring_c.specs.Results.{step-17, step-1, step-rest}
 use borrow.Author.Needs.{needs}
 use Rattle.ring_c.proofs.ring_step.Statement.{statement}

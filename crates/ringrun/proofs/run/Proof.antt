@@ -1,4 +1,4 @@
--- `run`: read by read what is held lies within the line; it ends when its turns are used up. Assumes nothing.
+-- `run`: turn by turn what is held lies within the line; it ends when its turns are used up. Assumes nothing.
 use borrow.Author.Needs.{needs}
 use mathlib.Core.Path.{_≡_, refl, _∙_}
 use Prim.Native.Nat.{_≤_}
@@ -8,7 +8,7 @@ use Rattle.ringrun.proofs.run.Tie as tie
 
 abbrev Inv-loop : tie.InvT-loop
 Inv-loop w₀ line₀ out₀ input₀ turns₀ held₀ w line out input turns held =
-    (held ≤ length line₀) × (length w ≡ length w₀) × (length line ≡ length line₀) × (length out ≡ length out₀) × (length input ≡ length input₀)
+    (held ≤ 515) × (length w ≡ length w₀) × (length line ≡ length line₀) × (length out ≡ length out₀) × (length input ≡ length input₀)
 
 abbrev μ-loop : tie.MeasureT-loop
 μ-loop w₀ line₀ out₀ input₀ turns₀ held₀ w line out input turns held = turns
@@ -19,17 +19,20 @@ loop-holds c = (search needs, refl, refl, refl, refl)
 take-some-requires : tie.Need-take-some-requires Inv-loop μ-loop
 take-some-requires c κs = search needs
 
+goes-on-requires : tie.Need-goes-on-requires Inv-loop μ-loop
+goes-on-requires c κs = search needs
+
 same-length : tie.Need-same-length Inv-loop μ-loop
-same-length c = c .before .before .before .before .before .before .before .before .before .before .take-some .kept .0 ∙ c .before .before .before .before .before .before .before .before .before .before .before .before .before .before .before .before .loop .inv .1
+same-length c = c .before .before .before .before .before .before .before .before .before .before .before .take-some .kept .0 ∙ c .before .before .before .before .before .before .before .before .before .before .before .before .before .before .before .before .before .loop .inv .1
 
 same-length-2 : tie.Need-same-length-2 Inv-loop μ-loop
-same-length-2 c = c .before .before .before .before .before .before .before .before .before .before .take-some .kept .1 .0 ∙ c .before .before .before .before .before .before .before .before .before .before .before .before .before .before .before .before .loop .inv .2
+same-length-2 c = c .before .before .before .before .before .before .before .before .before .before .before .take-some .kept .1 .0 ∙ c .before .before .before .before .before .before .before .before .before .before .before .before .before .before .before .before .before .loop .inv .2
 
 same-length-3 : tie.Need-same-length-3 Inv-loop μ-loop
-same-length-3 c = c .before .before .before .before .before .before .before .before .before .before .take-some .kept .1 .1 .0 ∙ c .before .before .before .before .before .before .before .before .before .before .before .before .before .before .before .before .loop .inv .3
+same-length-3 c = c .before .before .before .before .before .before .before .before .before .before .before .take-some .kept .1 .1 .0 ∙ c .before .before .before .before .before .before .before .before .before .before .before .before .before .before .before .before .before .loop .inv .3
 
 same-length-4 : tie.Need-same-length-4 Inv-loop μ-loop
-same-length-4 c = c .before .before .before .before .before .before .before .before .before .before .take-some .kept .1 .1 .1 .1 .0 ∙ c .before .before .before .before .before .before .before .before .before .before .before .before .before .before .before .before .loop .inv .4
+same-length-4 c = c .before .before .before .before .before .before .before .before .before .before .before .take-some .kept .1 .1 .1 .1 .0 ∙ c .before .before .before .before .before .before .before .before .before .before .before .before .before .before .before .before .before .loop .inv .4
 
 returns : tie.Need-returns Inv-loop μ-loop
 returns c = search needs
@@ -41,7 +44,10 @@ loop-less : tie.Need-loop-less Inv-loop μ-loop
 loop-less c = search needs
 
 loop-again : tie.Need-loop-again Inv-loop μ-loop
-loop-again c = (search needs, c .before .before .before .before .before .before .before .before .before .before .take-some .kept .0 ∙ c .before .before .before .before .before .before .before .before .before .before .before .before .before .before .before .before .loop .inv .1, c .before .before .before .before .before .before .before .before .before .before .take-some .kept .1 .0 ∙ c .before .before .before .before .before .before .before .before .before .before .before .before .before .before .before .before .loop .inv .2, c .before .before .before .before .before .before .before .before .before .before .take-some .kept .1 .1 .0 ∙ c .before .before .before .before .before .before .before .before .before .before .before .before .before .before .before .before .loop .inv .3, c .before .before .before .before .before .before .before .before .before .before .take-some .kept .1 .1 .1 .1 .0 ∙ c .before .before .before .before .before .before .before .before .before .before .before .before .before .before .before .before .loop .inv .4)
+loop-again c =
+    let loop = c .before .before .before .before .before .before .before .before .before .before .before .before .before .before .before .before .before .loop in
+    let some = c .before .before .before .before .before .before .before .before .before .before .before .take-some in
+    (some .ensures .1, some .kept .0 ∙ loop .inv .1, some .kept .1 .0 ∙ loop .inv .2, some .kept .1 .1 .0 ∙ loop .inv .3, some .kept .1 .1 .1 .1 .0 ∙ loop .inv .4)
 
 same-length-5 : tie.Need-same-length-5 Inv-loop μ-loop
 same-length-5 c = c .before .loop .inv .1
@@ -66,6 +72,7 @@ run-spec =
     μ-loop
     loop-holds
     take-some-requires
+    goes-on-requires
     same-length
     same-length-2
     same-length-3

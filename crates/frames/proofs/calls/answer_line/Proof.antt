@@ -1,6 +1,6 @@
 -- `frames::calls::answer_line` is `lineCall`, by the three frames. Assumes nothing.
 use Rattle.frames.specs.Lines.{founding-line, command-line, unreadable-line}
-use Rattle.frames.specs.Founding.{found-fits}
+use Rattle.frames.specs.Founding.{decoded-fits}
 use Rattle.protocol.specs.declared.Frame.the-variants.{Founding, Command, Unreadable}
 use Rattle.protocol.specs.declared.Frame.{Frame}
 use Rattle.protocol.proofs.Frame.{the-type}
@@ -27,11 +27,11 @@ decode-requires c κs = search needs
 enum-known-frame : tie.Need-enum-known-frame
 enum-known-frame c = search needs
 
-found-requires : tie.Need-found-requires
-found-requires c κs =
+fresh-ring-requires : tie.Need-fresh-ring-requires
+fresh-ring-requires c κs =
     let d = c .before .before .before .before .decode in
     let g = c .before .before .frame .given in
-    found-fits (c .before .before .before .before .before .before .before .args .line .now) (d .result) (g .0 .0) (d .ensures) (g .1)
+    decoded-fits (c .before .before .before .before .before .before .before .args .line .now) (d .result) (g .0 .0) (d .ensures) (g .1)
 
 outcome-line-requires : tie.Need-outcome-line-requires
 outcome-line-requires c κs = search needs
@@ -44,7 +44,7 @@ returns c =
     let a = c .before .before .before .before .before .before .before .before .before .before .before .args in
     let d = c .before .before .before .before .before .before .before .before .decode in
     let g = c .before .before .before .before .before .before .frame .given in
-    let f = c .before .before .before .found in
+    let f = c .before .before .before .fresh-ring in
     let p = c .outcome-line in (
       founding-line (a .w .now) (a .line .now) (d .result) (d .ensures) (f .result) (f .last .0) (p .result) (p .ensures .0) (g .0 .0) (g .1) (f .ensures),
       p .ensures .1,
@@ -94,7 +94,7 @@ answer-line-spec =
     (tie.spec
     decode-requires
     enum-known-frame
-    found-requires
+    fresh-ring-requires
     outcome-line-requires
     same-length
     returns

@@ -1,7 +1,7 @@
 -- `frames::calls::identifiers`: the first i identifiers are read so far. Assumes nothing.
 use Rattle.frames.specs.Founding.{identifiers-more}
 use Rattle.protocol.specs.Frames.{identifiers}
-use Rattle.lists.specs.Blocks.{table}
+use Rattle.lists.specs.Basics.{table}
 use lib.ListN.{length, length-set, take}
 use Prim.Native.Nat.{_≤_, _-_}
 use mathlib.Core.Path.{_≡_, refl, _∙_}

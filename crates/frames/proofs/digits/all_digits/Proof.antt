@@ -1,7 +1,7 @@
 -- `frames::digits::all_digits` is `every isDigit`: all bytes pass if those from i on do. Assumes nothing.
 use Rattle.frames.specs.Digits.{every-stops, every-goes-on}
 use Rattle.protocol.specs.Frames.{isDigit}
-use Rattle.lists.specs.Tests.{every}
+use Rattle.lists.specs.Basics.{every}
 use lib.Seq.{drop-length}
 use lib.ListN.{length, drop}
 use Prim.Native.Nat.{_≤_, _-_}

@@ -1,6 +1,6 @@
 -- `frames::digits::digit_value` is `digitValue`: each return is what the tests before it say. Assumes nothing.
 use Rattle.protocol.specs.Frames.{digitValue}
-use Rattle.lists.specs.Choice.{if_then_else_}
+use Rattle.lists.specs.Basics.{if_then_else_}
 use borrow.Author.Tests.{lt-ltb, le-ltb}
 use borrow.Author.Needs.{needs}
 use Rattle.frames.proofs.digits.digit_value.Statement.{statement}

@@ -1,6 +1,6 @@
 -- `frames::printing::digit_of` is `digitOf`, below 10 and from 10 on. Assumes nothing.
 use Rattle.protocol.specs.Frames.{digitOf}
-use Rattle.lists.specs.Choice.{if_then_else_}
+use Rattle.lists.specs.Basics.{if_then_else_}
 use borrow.Author.Tests.{lt-ltb, le-ltb}
 use borrow.Author.Needs.{needs}
 use Rattle.frames.proofs.printing.digit_of.Statement.{statement}

@@ -1,6 +1,6 @@
 -- `frames::reading::decode` is `frame`: each return is what the questions before it say. Assumes nothing.
 use Rattle.protocol.specs.Frames.{frame, command}
-use Rattle.lists.specs.Choice.{if_then_else_, require}
+use Rattle.lists.specs.Basics.{if_then_else_, require}
 use borrow.Author.Tests.{eq-eqb, ne-eqb, lt-leb, le-leb, not-true, not-false}
 use borrow.Author.Needs.{needs}
 use Rattle.frames.proofs.reading.decode.Statement.{statement}

@@ -1,6 +1,6 @@
 -- `frames::reading::founding` is `founding`, with a rest and without one. Assumes nothing.
 use Rattle.protocol.specs.Frames.{founding}
-use Rattle.lists.specs.Choice.{if_then_else_, require}
+use Rattle.lists.specs.Basics.{if_then_else_, require}
 use borrow.Author.Tests.{eq-eqb, ne-eqb}
 use Rattle.frames.proofs.reading.founding.Statement.{statement}
 use Rattle.frames.proofs.reading.founding.Tie as tie

@@ -3,7 +3,8 @@ use mathlib.Core.Path.{_≡_, sym, _∙_}
 use Prim.Native.Nat.{_≤_, _-_}
 use native.Mathlib.Omega.{arith}
 use borrow.Author.Needs.{needs}
-use Rattle.lists.specs.Search.{first, first-none, first-more, first-found}
+use Rattle.lists.specs.Basics.{first}
+use Rattle.lists.specs.Search.{first-none, first-more, first-at}
 use Rattle.protocol.specs.Record.{read, countIn}
 use Rattle.protocol.specs.Membership.{holds}
 use Rattle.queries.specs.Questions.{lowest-read}
@@ -30,7 +31,7 @@ returns c =
     let a = c .before .before .before .before .before .before .args in
     let l = c .before .before .before .loop in
     let w = a .w .now in
-    sym (lowest-read w (a .v) ∙ first-found (λ k. holds (read w) k (a .v)) (countIn w) (l .node) (l .inv .1) (sym (c .before .holds .ensures) ∙ c .if1 .taken) (search needs))
+    sym (lowest-read w (a .v) ∙ first-at (λ k. holds (read w) k (a .v)) (countIn w) (l .node) (l .inv .1) (sym (c .before .holds .ensures) ∙ c .if1 .taken) (search needs))
 
 add-node : tie.Need-add-node Inv-loop μ-loop
 add-node c = search needs

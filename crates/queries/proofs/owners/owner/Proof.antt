@@ -3,7 +3,7 @@ use mathlib.Core.Path.{sym, _∙_}
 use borrow.Author.Tests.{not-true, not-false}
 use borrow.Author.Needs.{needs}
 use Rattle.layout.specs.Form.{valid}
-use Rattle.queries.specs.Questions.{owner-1, owner-2, owner-15, owner-held}
+use Rattle.queries.specs.Questions.{owner-1, owner-2, owner-15, owner-holder}
 use Rattle.queries.proofs.owners.owner.Statement.{statement}
 use Rattle.queries.proofs.owners.owner.Tie as tie
 
@@ -30,7 +30,7 @@ returns-3 c =
     let w = a .w .now in
     let ok = valid w (c .before .before .before .before .before .if1 .left) (sym (c .before .before .before .before .well-formed .ensures) ∙ not-false _ (c .before .before .before .if2 .left)) in
     let k = c .before .before .first-holder in
-    sym (owner-held w (a .number) ok (k .result) (k .ensures) (c .if3 .taken))
+    sym (owner-holder w (a .number) ok (k .result) (k .ensures) (c .if3 .taken))
 
 returns-4 : tie.Need-returns-4
 returns-4 c =

@@ -1,6 +1,6 @@
 -- `close_up`: what `shift` leaves, with an empty message behind it. Assumes nothing.
 use native.Mathlib.Omega.{arith}
-use Rattle.lists.specs.Splice.{put-tail, shifted, closed, length-shifted}
+use Rattle.lists.specs.Splice.{put-tail, shifted, closedUp, length-shifted}
 use Rattle.protocol.specs.Record.{messageSize, messageWords, noMessage}
 use borrow.Author.Needs.{needs}
 use Rattle.record.proofs.messages.close_up.Statement.{statement}
@@ -28,7 +28,7 @@ same-length : tie.Need-same-length
 same-length c = search needs
 
 returns : tie.Need-returns
-unfolding closed
+unfolding closedUp
 returns c = let a = c .before .before .before .before .before .before .before .before .before .args in
     let l = length-shifted messageSize (a .part .now) (a .n) (omega arith) in
     rw (c .before .before .write-message .ensures, c .before .before .before .before .before .before .shift .ensures, put-tail (shifted messageSize (a .part .now) (a .n)) (messageWords noMessage) (a .n) (omega arith))

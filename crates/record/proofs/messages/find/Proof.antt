@@ -4,7 +4,8 @@ use borrow.Author.Needs.{needs}
 use mathlib.Core.Path.{_≡_, sym, _∙_}
 use Prim.Native.Nat.{_≤_, _-_}
 use native.Mathlib.Omega.{arith}
-use Rattle.lists.specs.Search.{first, first-none, first-more, first-found}
+use Rattle.lists.specs.Basics.{first}
+use Rattle.lists.specs.Search.{first-none, first-more, first-at}
 use Rattle.protocol.specs.Record.{read, messagesIn}
 use Rattle.protocol.specs.Step.{onLink}
 use Rattle.record.proofs.messages.find.Statement.{statement}
@@ -57,7 +58,7 @@ returns c =
     let a = c .before .before .before .before .before .before .before .before .args in
     let l = c .before .before .before .before .before .loop in
     let w = a .w .now in
-    sym (oldest-read w (a .x) (a .y) ∙ first-found (onLink (read w) (a .x) (a .y)) (messagesIn w) (l .j) (l .inv .1) (on-link-read w (a .x) (a .y) (l .j) (search needs) ∙ sym (c .before .both .ensures) ∙ c .if1 .taken) (search needs))
+    sym (oldest-read w (a .x) (a .y) ∙ first-at (onLink (read w) (a .x) (a .y)) (messagesIn w) (l .j) (l .inv .1) (on-link-read w (a .x) (a .y) (l .j) (search needs) ∙ sym (c .before .both .ensures) ∙ c .if1 .taken) (search needs))
 
 add-j : tie.Need-add-j Inv-loop μ-loop
 add-j c = search needs

@@ -1,6 +1,6 @@
 -- `finish_fresh` hands back what a fresh call left. Assumes nothing.
 use Rattle.protocol.specs.Answers.{refusal}
-use Rattle.protocol.specs.Bytes.{bytesAfter, founded}
+use Rattle.protocol.specs.Bytes.{bytesAfter, freshCarried}
 use borrow.Author.Needs.{needs}
 use Rattle.ring_c.proofs.results.finish_fresh.Statement.{statement}
 use Rattle.ring_c.proofs.results.finish_fresh.Tie as tie
@@ -16,14 +16,14 @@ save-requires : tie.Need-save-requires
 save-requires c κs = search needs
 
 returns : tie.Need-returns
-unfolding founded refusal bytesAfter
+unfolding freshCarried refusal bytesAfter
 returns c = simp (c .before .r .given .1)
 
 same-length : tie.Need-same-length
 same-length c = search needs
 
 returns-2 : tie.Need-returns-2
-unfolding founded refusal bytesAfter
+unfolding freshCarried refusal bytesAfter
 returns-2 c = simp (c .before .before .before .before .enum-told .given .1, c .before .before .save .ensures)
 
 pub finish-fresh-spec : {M : Type 1} → statement M

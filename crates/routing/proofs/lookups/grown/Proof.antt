@@ -1,7 +1,7 @@
 -- `grown`: at each return the tests on the way decide the definition. Assumes nothing.
 use native.Mathlib.Omega.{arith}
 use borrow.Author.Tests.{lt-ltb, le-ltb}
-use Rattle.lists.specs.Choice.{if_then_else_}
+use Rattle.lists.specs.Basics.{if_then_else_}
 use Rattle.protocol.specs.Kinds.{grown}
 use Rattle.routing.proofs.lookups.grown.Statement.{statement}
 use Rattle.routing.proofs.lookups.grown.Tie as tie

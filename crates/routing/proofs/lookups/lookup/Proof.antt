@@ -1,6 +1,8 @@
 -- `lookup`: at each return the tests on the way decide the definition. Assumes nothing.
-use borrow.Author.Tests.{lt-ltb, lt-leb, le-leb, le-ltb}
-use Rattle.lists.specs.Choice.{if_then_else_}
+use borrow.Author.Tests.{lt-leb, le-leb}
+use Rattle.lists.specs.Basics.{if_then_else_}
+use Rattle.lists.specs.Tests.{before-next, not-before-next}
+use Rattle.protocol.specs.Names.{LEAVING}
 use Rattle.protocol.specs.Routing.{inRing}
 use Rattle.protocol.specs.Kinds.{lookup}
 use Rattle.routing.proofs.lookups.lookup.Statement.{statement}
@@ -18,7 +20,7 @@ returns c =
     simp (
       c .lookup-routed .ensures,
       c .before .route .ensures,
-      lt-ltb _ _ (c .before .before .if2 .taken),
+      before-next _ LEAVING (c .before .before .if2 .taken),
       le-leb _ _ (c .before .before .before .if1 .left),
     )
 
@@ -28,7 +30,7 @@ returns-2 c = simp (lt-leb _ _ (c .if1 .taken))
 
 returns-3 : tie.Need-returns-3
 unfolding lookup inRing if_then_else_
-returns-3 c = simp (le-ltb _ _ (c .if2 .left), le-leb _ _ (c .before .if1 .left))
+returns-3 c = simp (not-before-next _ LEAVING (c .if2 .left), le-leb _ _ (c .before .if1 .left))
 
 pub lookup-spec : {M : Type 1} → statement M
 lookup-spec =

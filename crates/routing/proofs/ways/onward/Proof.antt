@@ -1,6 +1,6 @@
 -- `onward`: at each return the tests on the way decide the definition. Assumes nothing.
 use borrow.Author.Tests.{ne-eqb}
-use Rattle.lists.specs.Choice.{if_then_else_}
+use Rattle.lists.specs.Basics.{if_then_else_}
 use Rattle.protocol.specs.Routing.{onward}
 use Rattle.routing.proofs.ways.onward.Statement.{statement}
 use Rattle.routing.proofs.ways.onward.Tie as tie

@@ -1,6 +1,6 @@
 -- `route`: at each return the tests on the way decide the definition. Assumes nothing.
 use borrow.Author.Tests.{eq-eqb, ne-eqb}
-use Rattle.lists.specs.Choice.{if_then_else_}
+use Rattle.lists.specs.Basics.{if_then_else_}
 use Rattle.protocol.specs.Routing.{route}
 use Rattle.routing.proofs.ways.route.Statement.{statement}
 use Rattle.routing.proofs.ways.route.Tie as tie

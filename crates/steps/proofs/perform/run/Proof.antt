@@ -1,6 +1,6 @@
 -- `run`: the operation decides the definition, and the command's own equation is the rest. Assumes nothing.
 use borrow.Author.Tests.{ne-eqb}
-use Rattle.lists.specs.Choice.{if_then_else_}
+use Rattle.lists.specs.Basics.{if_then_else_}
 use Rattle.protocol.specs.Step.{step}
 use Rattle.protocol.specs.Calls.{written}
 use borrow.Author.Needs.{needs}

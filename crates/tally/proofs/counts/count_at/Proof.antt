@@ -1,6 +1,6 @@
 -- `count_at`: the test decides the choice, and `raise` gives the count raised. Assumes nothing.
 use borrow.Author.Tests.{eq-eqb, ne-eqb}
-use Rattle.lists.specs.Choice.{if_then_else_}
+use Rattle.lists.specs.Basics.{if_then_else_}
 use borrow.Author.Needs.{needs}
 use Rattle.tally.proofs.counts.count_at.Statement.{statement}
 use Rattle.tally.proofs.counts.count_at.Tie as tie

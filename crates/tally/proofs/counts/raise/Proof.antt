@@ -1,7 +1,7 @@
 -- `raise`: the greatest count stays, and any other has room for one more. Assumes nothing.
 use Prim.Native.Nat.{_<_, _≤_}
 use native.Mathlib.Omega.{arith}
-use Rattle.lists.specs.Choice.{if_then_else_}
+use Rattle.lists.specs.Basics.{if_then_else_}
 use borrow.Author.Tests.{lt-ltb, le-ltb}
 use Rattle.protocol.specs.Answers.{raised}
 use borrow.Author.Needs.{needs}

@@ -5,8 +5,7 @@ use mathlib.Core.Bool.{_&&_}
 use Prim.Native.Nat.{_≤_, _-_}
 use native.Mathlib.Omega.{arith}
 use lib.Dec.{eqb}
-use Rattle.lists.specs.Tests.{every}
-use Rattle.lists.specs.Blocks.{table}
+use Rattle.lists.specs.Basics.{every, table}
 use Rattle.lists.specs.Merge.{or-test, every-none, every-more}
 use Rattle.protocol.specs.Record.{messageStart, messageFrom}
 use Rattle.protocol.specs.WellFormed.{messageOk}

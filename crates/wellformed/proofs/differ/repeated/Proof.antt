@@ -6,8 +6,7 @@ use Prim.Native.Nat.{_≤_, _-_}
 use native.Mathlib.Omega.{arith}
 use lib.Dec.{eqb}
 use lib.ListN.{getD}
-use Rattle.lists.specs.Tests.{distinct}
-use Rattle.lists.specs.Blocks.{table}
+use Rattle.lists.specs.Basics.{distinct, table}
 use Rattle.lists.specs.Merge.{or-test, distinct-none, merged-next}
 use Rattle.wellformed.proofs.differ.repeated.Statement.{statement}
 use Rattle.wellformed.proofs.differ.repeated.Tie as tie

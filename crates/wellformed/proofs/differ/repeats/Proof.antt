@@ -4,7 +4,7 @@ use mathlib.Core.Path.{_≡_, sym, _∙_, ap}
 use Prim.Native.Nat.{_≤_, _-_}
 use native.Mathlib.Omega.{arith}
 use lib.ListN.{getD}
-use Rattle.lists.specs.Choice.{if_then_else_}
+use Rattle.lists.specs.Basics.{if_then_else_}
 use Rattle.lists.specs.Merge.{merged, merged-none, merged-more, unlike}
 use Rattle.wellformed.proofs.differ.repeats.Statement.{statement}
 use Rattle.wellformed.proofs.differ.repeats.Tie as tie

@@ -1,7 +1,7 @@
 -- `bad_fields`: what a message of its kind must not have, merged. Assumes nothing.
 use mathlib.Core.Path.{_∙_, ap}
 use mathlib.Core.Bool.{not}
-use Rattle.lists.specs.Choice.{if_then_else_}
+use Rattle.lists.specs.Basics.{if_then_else_}
 use Rattle.wellformed.specs.Laws.{fields-law}
 use borrow.Author.Needs.{needs}
 use Rattle.wellformed.proofs.message.bad_fields.Statement.{statement}

@@ -1,0 +1,168 @@
+-- DEMAND 3 of the C calls, proved: the words that the bytes carry go through the steps of the calls that made one. Assumes nothing.
+use mathlib.Core.Path.{_≡_, refl, sym, _∙_, ap, subst}
+use mathlib.Core.Bool.{Bool, true, false, _&&_}
+use mathlib.Core.List.{List, [], _∷_, _++_, append-assoc, append-nil}
+use Prim.Native.Nat.{ℕ}
+use native.Mathlib.Omega.{arith}
+use lib.Dec.{leb}
+use lib.ListN.{length}
+use Rattle.lists.specs.Basics.{if_then_else_, require, distinct, All}
+use Rattle.lists.specs.Choice.{tested}
+use Rattle.lists.specs.Members.{all-append}
+use Rattle.protocol.specs.declared.Answer.the-variants.{Quiet}
+use Rattle.protocol.specs.declared.Outcome.the-variants.{Answered}
+use Rattle.protocol.specs.Names.{OUTPUT-SHORT}
+use Rattle.protocol.specs.Record.{mostNodes, read}
+use Rattle.protocol.specs.WellFormed.{wellFormed}
+use Rattle.protocol.specs.Step.{Result, refused, accepted, step}
+use Rattle.protocol.specs.Calls.{Called, long, onRecord, turnedDown, written, stepCall, freshCall}
+use Rattle.protocol.specs.Answers.{refusal}
+use Rattle.protocol.specs.Bytes.{Byte, wordsOf, bytesAfter, CalledBytes, carried, stepBytes, freshCarried, freshBytes}
+use Rattle.layout.specs.Bytes.{words-below, written-read}
+use Rattle.atomicity.specs.Demand3.{Call, ThreeWords, Event, Word, present, called, history, recordAfter, Founded, from-fresh, Claims, Demand3}
+use Rattle.atomicity.specs.Record.{step-sound, fresh-sound}
+use Rattle.atomicity.specs.Theorem.{demand-3}
+use Rattle.atomicity.specs.Small.{reached-words}
+use Rattle.atomicity.specs.Demand3C.{CCall, stepsOf, bytesLeft, CDemand3}
+
+-- One call more on a record that was reached.
+history-last : (w : List ℕ) (calls : List Call) (c : Call)
+    → history present w (calls ++ (c ∷ [])) ≡ history present w calls ++ (record { call = c; outcome = called present (recordAfter present w calls) c .outcome } ∷ [])
+unfolding history recordAfter
+history-last w [] c = refl
+history-last w (k ∷ calls) c = ap (λ l. record { call = k; outcome = called present w k .outcome } ∷ l) (history-last (called present w k .slice) calls c)
+
+record-last : (w : List ℕ) (calls : List Call) (c : Call) → recordAfter present w (calls ++ (c ∷ [])) ≡ called present (recordAfter present w calls) c .slice
+unfolding recordAfter
+record-last w [] c = refl
+record-last w (k ∷ calls) c = record-last (called present w k .slice) calls c
+
+pub one-more : {ids : List ℕ} {events : List Event} {w : List ℕ} → Founded present ids events w → (c : Call) → ThreeWords c
+    → Founded present ids (events ++ (record { call = c; outcome = called present w c .outcome } ∷ [])) (called present w c .slice)
+one-more {ids} {events} {w} r c t = record {
+  slice = r .slice;
+  calls = r .calls ++ (c ∷ []);
+  identifiers = r .identifiers;
+  commands = all-append ThreeWords (r .calls) (c ∷ []) (r .commands) (t, tt);
+  accepted = r .accepted;
+  happened =
+      ap (λ l. l ++ (record { call = c; outcome = called present w c .outcome } ∷ [])) (r .happened)
+      ∙ ap (λ z. history present (freshCall (r .slice) ids .slice) (r .calls) ++ (record { call = c; outcome = called present z c .outcome } ∷ [])) (r .is)
+      ∙ sym (history-last (freshCall (r .slice) ids .slice) (r .calls) c);
+  is = ap (λ z. called present z c .slice) (r .is) ∙ sym (record-last (freshCall (r .slice) ids .slice) (r .calls) c);
+}
+
+-- What a call on the words leaves is what is read from the bytes that it leaves.
+module _ (b : List ℕ) where
+  Back : Called → Type 0
+  Back z = All Word (z .slice) → length (z .slice) ≡ length (wordsOf b) → wordsOf (bytesAfter b (z .slice) (z .outcome)) ≡ z .slice
+
+  turned-back : (k : ℕ) → Back (turnedDown (wordsOf b) k)
+  unfolding Back bytesAfter
+  turned-back k w l = refl
+
+  written-back : (r : Result) → Back (written (wordsOf b) r)
+  unfolding Back written bytesAfter
+  written-back (refused k) w l = refl
+  written-back (accepted a s) w l = written-read b _ w l
+
+  step-back : (operation x y : ℕ) → Back (stepCall (wordsOf b) operation x y)
+  unfolding stepCall onRecord
+  step-back operation x y =
+      tested Back (long (wordsOf b)) _ _ (turned-back 1)
+      (λ l. tested Back (wellFormed (wordsOf b)) _ _ (turned-back 2) (λ f. written-back (step (read (wordsOf b)) operation x y)))
+
+  fresh-back : (ids : List ℕ) → Back (freshCall (wordsOf b) ids)
+  unfolding freshCall
+  fresh-back ids =
+      tested Back (long (wordsOf b)) _ _ (turned-back 1)
+      (λ l. tested Back (leb 1 (length ids) && leb (length ids) mostNodes) _ _ (turned-back 13)
+      (λ n. tested Back (distinct ids) _ _ (turned-back 14) (λ d. written-back (accepted Quiet _))))
+
+-- A record that was reached in a slice of 32-bit words; and bytes that carry one.
+abbrev Reach : List ℕ → List Event → List ℕ → Type 0
+Reach ids events w = (r : Founded present ids events w) × All Word (r .slice)
+
+abbrev At : List ℕ → List Event → List ℕ → Type 0
+At ids events bytes = Reach ids events (wordsOf bytes)
+
+-- A call that makes a step.
+abbrev event : List ℕ → Call → Event
+event b c = record { call = c; outcome = called present (wordsOf b) c .outcome }
+
+steps-on : (ids : List ℕ) (events : List Event) (b : List ℕ) → At ids events b → (c : Call) → ThreeWords c
+    → At ids (events ++ (event b c ∷ [])) (bytesAfter b (called present (wordsOf b) c .slice) (called present (wordsOf b) c .outcome))
+unfolding Back one-more
+steps-on ids events b r c t =
+    let next = one-more (r .0) c t in
+    subst (Reach ids (events ++ (event b c ∷ [])))
+    (sym (step-back b (c .operation) (c .x) (c .y) (reached-words next (r .1)) (step-sound (wordsOf b) (c .operation) (c .x) (c .y) .0 .size)))
+    (next, r .1)
+
+-- Every list of calls.
+every-call : (ids : List ℕ) (events : List Event) (b : List ℕ) → At ids events b → (calls : List CCall) → All (λ c. ThreeWords (c .call)) calls
+    → At ids (events ++ stepsOf b calls) (bytesLeft b calls)
+unfolding stepsOf bytesLeft stepBytes carried require if_then_else_
+every-call ids events b r [] t = subst (λ l. At ids l b) (sym (append-nil events)) r
+every-call ids events b r (c ∷ calls) t = go (leb 20 (length (c .out))) (λ e d k. every-call ids e d k calls (t .1))
+  where
+    stepped : CalledBytes
+    stepped = carried b (c .out) (called present (wordsOf b) (c .call))
+
+    left : Bool → List ℕ
+    left z = require z (record { code = OUTPUT-SHORT; bytes = b; output = c .out }) stepped .bytes
+
+    go : (z : Bool) → ((e : List Event) (d : List ℕ) → At ids e d → At ids (e ++ stepsOf d calls) (bytesLeft d calls))
+        → At ids (events ++ (require z [] (event b (c .call) ∷ []) ++ stepsOf (left z) calls)) (bytesLeft (left z) calls)
+    go true more =
+        subst (λ l. At ids l (bytesLeft (left true) calls)) (append-assoc events (event b (c .call) ∷ []) (stepsOf (left true) calls))
+        (more (events ++ (event b (c .call) ∷ [])) (left true) (steps-on ids events b r (c .call) (t .0)))
+    go false more = more events b r
+
+-- A fresh call that returns 0 was accepted.
+fresh-zero : (w ids : List ℕ) → refusal (freshCall w ids .outcome) ≡ 0 → freshCall w ids .outcome ≡ Answered Quiet
+unfolding freshCall refusal written
+fresh-zero w ids =
+    tested Zero (long w) _ _ (λ e. absurd (omega arith))
+    (λ l. tested Zero (leb 1 (length ids) && leb (length ids) mostNodes) _ _ (λ e. absurd (omega arith))
+    (λ n. tested Zero (distinct ids) _ _ (λ e. absurd (omega arith)) (λ d e. refl)))
+  where
+    Zero : Called → Type 0
+    Zero z = refusal (z .outcome) ≡ 0 → z .outcome ≡ Answered Quiet
+
+begins : (lent ids : List ℕ) → All Byte lent → All Word ids → refusal (freshCall (wordsOf lent) ids .outcome) ≡ 0
+    → At ids [] (bytesAfter lent (freshCall (wordsOf lent) ids .slice) (freshCall (wordsOf lent) ids .outcome))
+unfolding Back history recordAfter
+begins lent ids bytes small zero =
+    subst (Reach ids [])
+    (sym (fresh-back lent ids (reached-words founded (words-below lent bytes)) (fresh-sound (wordsOf lent) ids .0 .size)))
+    (founded, words-below lent bytes)
+  where
+    founded : Founded present ids [] (freshCall (wordsOf lent) ids .slice)
+    founded = record {
+      slice = wordsOf lent;
+      calls = [];
+      identifiers = small;
+      commands = tt;
+      accepted = fresh-zero (wordsOf lent) ids zero;
+      happened = refl;
+      is = refl;
+    }
+
+pub c-demand-3 : CDemand3
+unfolding CDemand3 Demand3 freshBytes freshCarried
+c-demand-3 ids events bytes r =
+    subst (λ l. Claims present ids l (wordsOf bytes)) (sym (r .happened))
+    (subst (λ b. Claims present ids (stepsOf first (r .calls)) (wordsOf b)) (sym (r .is))
+    (demand-3 ids _ _ (from-fresh (all .0))))
+  where
+    first : List ℕ
+    first = freshBytes (r .lent) (r .identifiers) .bytes
+
+    start : At ids [] first
+    start =
+        subst (λ i. At i [] first) (sym (r .names))
+        (begins (r .lent) (wordsOf (r .identifiers)) (r .lent-bytes) (words-below (r .identifiers) (r .identifier-bytes)) (r .accepted))
+
+    all : At ids (stepsOf first (r .calls)) (bytesLeft first (r .calls))
+    all = every-call ids [] first start (r .calls) (r .commands)

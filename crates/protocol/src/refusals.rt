@@ -1,0 +1,54 @@
+// The refusals, by document 01's numbers ('Questions before a call, in order'). specs/Names.antt has the same names, with - for _.
+// Fewer than 1,988 words.
+pub const RECORD_SHORT: u32 = 1;
+
+// The record is not well formed.
+pub const NOT_WELL_FORMED: u32 = 2;
+
+// No such operation.
+pub const NO_OPERATION: u32 = 3;
+
+// A hub number that is not below the hub count.
+pub const NO_HUB: u32 = 4;
+
+// The hub is not in state 2 to 4.
+pub const NOT_IN_RING: u32 = 5;
+
+// Join: the hub is not outside.
+pub const NOT_OUTSIDE: u32 = 6;
+
+// Leave: the hub's lock is taken.
+pub const LOCKED: u32 = 7;
+
+// Leave: the hub is its own succ.
+pub const LAST_HUB: u32 = 8;
+
+// Deliver: nothing waits on the link.
+pub const NO_MESSAGE: u32 = 9;
+
+// Deliver: the receiver, or the hub that a JOIN names, is not as required.
+pub const NOT_EXPECTED: u32 = 10;
+
+// 256 messages wait.
+pub const MESSAGES_FULL: u32 = 11;
+
+// Ask: every ticket was given.
+pub const TICKETS_USED_UP: u32 = 12;
+
+// Fresh: not 1 to 64 identifiers.
+pub const IDENTIFIER_COUNT: u32 = 13;
+
+// Fresh: two identifiers are equal.
+pub const IDENTIFIER_TWICE: u32 = 14;
+
+// Owner: no hub holds the number.
+pub const NO_HOLDER: u32 = 15;
+
+// Roll call: following succ does not come back.
+pub const NO_WAY_ROUND: u32 = 16;
+
+// The lent output is too short.
+pub const OUTPUT_SHORT: u32 = 17;
+
+// A line of `ringrun` that is no frame: it prints EEFF. No call returns this number.
+pub const UNREADABLE: u32 = 255;
