@@ -2,7 +2,7 @@
 use mathlib.Core.Path.{_≡_, refl, ap, sym, _∙_}
 use mathlib.Core.Bool.{true, false}
 use mathlib.Core.List.{List, [], _∷_, _++_}
-use Prim.Native.Nat.{ℕ, suc, _+_, _≤_, _<_}
+use Prim.Native.Nat.{ℕ, _+_, _≤_, _<_}
 use native.Mathlib.Numerals.{add-one}
 use native.Mathlib.Omega.{arith}
 use lib.ListN.{length, take, drop, set, getD, length-append, length-take}
@@ -10,8 +10,7 @@ use lib.Seq.{take-all, take-append-le, take-suc-set, length-take-le, drop-cons, 
 use lib.Dec.{eqb}
 use borrow.Author.Tests.{eq-eqb, ne-eqb}
 use Rattle.lists.specs.Basics.{if_then_else_}
-use Rattle.lists.specs.Choice.{choose}
-use Rattle.console.specs.Lines.{Gathering, kept, gathered}
+use Rattle.console.specs.Lines.{kept, gathered}
 
 module _ (l : List ℕ) (h b : ℕ) where
   pub kept-more : h < length l → take (h + 1) (set l h b) ≡ kept (length l) (take h l) b
@@ -44,20 +43,3 @@ module _ (n : ℕ) (part input : List ℕ) (i : ℕ) where
         → gathered n part (drop i input) ≡ gathered n held (drop (i + 1) input)
     unfolding gathered if_then_else_
     gathered-more e held m k f = rw (add-one, drop-cons input i 0 h, ne-eqb _ _ e, k, f)
-
--- Whatever is gathered takes at least a byte of the input, if there is one.
-left-within : (n : ℕ) (part input : List ℕ) → length (gathered n part input .left) ≤ length input
-unfolding gathered
-left-within n part [] = omega arith
-left-within n part (b ∷ rest) =
-    choose (λ g. length (g .left) ≤ suc (length rest)) (eqb b 10) (record { part = part; ended = true; left = rest }) (gathered n (kept n part b) rest)
-    (λ _. omega arith)
-    (λ _. omega (arith, left-within n (kept n part b) rest))
-
-pub left-shorter : (n : ℕ) (part input : List ℕ) → 0 < length input → length (gathered n part input .left) < length input
-unfolding gathered
-left-shorter n part [] h = h
-left-shorter n part (b ∷ rest) h =
-    choose (λ g. length (g .left) < suc (length rest)) (eqb b 10) (record { part = part; ended = true; left = rest }) (gathered n (kept n part b) rest)
-    (λ _. omega arith)
-    (λ _. omega (arith, left-within n (kept n part b) rest))

@@ -1,6 +1,6 @@
 // A line out of the bytes of an input, which may hold a part of it, or many.
 ghost use mathlib.Core.Path.{_≡_};
-ghost use Prim.Native.Nat.{_≤_};
+ghost use Prim.Native.Nat.{_≤_, _<_};
 ghost use lib.ListN.{length, take, drop};
 ghost use Rattle.console.specs.Lines.{kept, gathered};
 
@@ -26,7 +26,7 @@ fn hold(line: &mut [u8], held: usize, b: u8) -> usize
 // The bytes of `input` from `at` on, up to the next LF, go into `line`, behind the `held` ones.
 pub fn gather(line: &mut [u8], held: usize, input: &[u8], at: usize) -> Gathered
     requires { ⌜ (held ≤ length (now line)) × (at ≤ length (now input)) ⌝ }
-    ensures { λ r. ⌜ (gathered (length (now (line .entry))) (take held (now (line .entry))) (drop at (now (input .entry))) ≡ record { part = take (r .held) (now (line .exit)); ended = r .ended; left = drop (r .at) (now (input .entry)) }) × (r .held ≤ length (now (line .entry))) × (r .at ≤ length (now (input .entry))) ⌝ }
+    ensures { λ r. ⌜ (gathered (length (now (line .entry))) (take held (now (line .entry))) (drop at (now (input .entry))) ≡ record { part = take (r .held) (now (line .exit)); ended = r .ended; left = drop (r .at) (now (input .entry)) }) × (r .held ≤ length (now (line .entry))) × (r .at ≤ length (now (input .entry))) × (at < length (now (input .entry)) → at < r .at) ⌝ }
 {
     let mut held_now = held;
     let mut i = at;

@@ -11,4 +11,4 @@ pub use arriving::receive;
 pub use gathering::Gathered;
 pub use gathering::gather;
 pub use leaving::send;
-pub use telling::tell_dropped;
+pub use telling::drop_line;

@@ -16,3 +16,14 @@ pub fn tell_dropped(name: &[u8], count: usize, what: &[u8]) {
     io::write_all(STDERR_FILENO, what);
     io::write_all(STDERR_FILENO, b"\n");
 }
+
+// What was begun of a line when a read failed is not answered: it is no line yet, and what follows is not known.
+pub fn drop_line(name: &[u8], held: usize) {
+    if held > 0 {
+        tell_dropped(
+            name,
+            held,
+            b" bytes held of a line that had not ended were dropped",
+        );
+    }
+}

@@ -29,7 +29,8 @@ fn identifiers(line: &[u8], count: usize) -> [u32; 64]
     ids
 }
 
-fn fresh_ring(w: &mut [u32], line: &[u8], count: usize) -> Outcome
+// The fresh call of a line that decodes as a founding with so many identifiers.
+pub fn fresh_ring(w: &mut [u32], line: &[u8], count: usize) -> Outcome
     requires { ⌜ (count ≤ 64) × (2 + 8 * count ≤ length (now line)) ⌝ }
     ensures { λ r. ⌜ freshCall (now (w .entry)) (identifiersSpec (now (line .entry)) count) ≡ record { outcome = r; slice = now (w .exit) } ⌝ }
 {

@@ -5,4 +5,5 @@ mod printing;
 mod reading;
 
 pub use calls::answer_line;
+pub use calls::fresh_ring;
 pub use reading::decode;

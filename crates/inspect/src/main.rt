@@ -1,56 +1,64 @@
-// A field engineer's walk through the calls on words that neither C nor `ringrun` makes: the hub row, the roll call and the count of
-// answers. Hub 1 of three is plugged in, then hub 2, and hub 1 is taken out; rows and rolls are shown on the way. What is printed is held
-// to the file stdout, and tests/model makes the same walk.
+// A ring, line by line, in words: frames as `ringrun` reads them, and lines that ask for rows, rolls, waiting messages and counts, which neither
+// `ringrun` nor the C calls show (docs/INSPECT.md). What it prints is compared with the model's (tests/inspect, tests/differential).
+mod bounds;
+mod calls;
+mod inquiries;
+mod names;
+mod numerals;
 mod show;
+mod taking;
+mod text;
+mod waiting;
 
+use calls::Session;
+use console::Arrival;
+use console::drop_line;
+use console::receive;
 use protocol::Tally;
 use protocol::form::RECORD_WORDS;
+use taking::Turn;
+use taking::finish;
+use taking::take_bytes;
 
-fn command(w: &mut [u32], t: Tally, operation: u32, x: u32, y: u32) -> Tally {
-    let r = ring::step(w, operation, x, y);
-    show::outcome(r);
-    tally::counted(t, r)
-}
-
-// Commands of three numbers each.
-fn walk(w: &mut [u32], t: Tally, commands: &[u32]) -> Tally {
-    let mut counts = t;
-    let mut i = 0;
-    while 3 <= commands.len() - i {
-        counts = command(w, counts, commands[i], commands[i + 1], commands[i + 2]);
-        i += 3;
+// Nothing more comes, or nobody sees the answers.
+fn stopped(t: Turn) -> Turn {
+    let session = t.session;
+    Turn {
+        session,
+        held: t.held,
+        at: 0,
+        goes_on: false,
     }
-    counts
 }
 
-fn row(w: &[u32], hub: u32) {
-    io::write_all(1, b"row");
-    show::words(ring::hub_row(w, hub));
+// One read, and the answers to every line that it ends. At the end of the input the last line may lack its LF.
+fn take_some(w: &mut [u32], line: &mut [u8], out: &mut [u8], t: Turn, input: &mut [u8]) -> Turn {
+    let arrival = receive(b"inspect", input);
+    match arrival {
+        Arrival::Bytes(n) => take_bytes(w, line, out, t, &input[..n]),
+        Arrival::End => stopped(finish(w, line, out, t)),
+        Arrival::Failed => {
+            drop_line(b"inspect", t.held);
+            stopped(t)
+        }
+    }
 }
 
-// Output words past the roll keep their content, here 99.
-fn roll(w: &[u32], hub: u32) {
-    let mut hubs = [99u32; 4];
-    let r = ring::roll_call(w, hub, &mut hubs);
-    show::roll(r, &hubs);
+// A proved loop has to end, and nothing says that the input does. So the loop counts its turns down, from a number that no run uses up.
+fn run(w: &mut [u32], line: &mut [u8], out: &mut [u8], t: Turn, input: &mut [u8]) {
+    let mut turns = 18446744073709551615u64;
+    let mut turn = t;
+    while turns > 0 {
+        turn = take_some(w, line, out, turn, input);
+        if !turn.goes_on {
+            return;
+        }
+        turns -= 1;
+    }
 }
 
-// An output of one word: too short for a ring of two.
-fn short_roll(w: &[u32], hub: u32) {
-    let mut hubs = [99u32; 1];
-    let r = ring::roll_call(w, hub, &mut hubs);
-    show::roll(r, &hubs);
-}
-
-fn look(w: &[u32]) {
-    row(w, 0);
-    row(w, 1);
-    roll(w, 0);
-    roll(w, 1);
-}
-
-fn nothing_counted() -> Tally {
-    Tally {
+fn begun() -> Turn {
+    let tally = Tally {
         quiet: 0,
         found: 0,
         entered: 0,
@@ -60,72 +68,24 @@ fn nothing_counted() -> Tally {
         joined: 0,
         left: 0,
         refused: 0,
+    };
+    let session = Session {
+        tally,
+        lent: RECORD_WORDS,
+    };
+    Turn {
+        session,
+        held: 0,
+        at: 0,
+        goes_on: true,
     }
 }
 
-// Hub 1 joins through hub 0; a question asked in the middle of it is answered by the newcomer.
-fn plug_in(w: &mut [u32], t: Tally) -> Tally {
-    let half = walk(w, t, &[1, 1, 0, 3, 1, 0, 3, 0, 1, 0, 0, 150]);
-    look(w);
-    let whole = walk(
-        w,
-        half,
-        &[3, 1, 0, 3, 0, 0, 3, 0, 1, 3, 0, 0, 3, 0, 1, 0, 1, 150],
-    );
-    look(w);
-    short_roll(w, 0);
-    whole
-}
-
-// Hub 2 joins, then hub 1 leaves.
-fn take_out(w: &mut [u32], t: Tally) -> Tally {
-    let three = walk(
-        w,
-        t,
-        &[1, 2, 0, 3, 2, 0, 3, 0, 2, 3, 2, 1, 3, 1, 0, 3, 0, 2],
-    );
-    look(w);
-    let two = walk(
-        w,
-        three,
-        &[
-            2,
-            1,
-            0,
-            3,
-            1,
-            2,
-            3,
-            2,
-            1,
-            3,
-            1,
-            2,
-            3,
-            2,
-            0,
-            3,
-            0,
-            1,
-            3,
-            1,
-            2,
-        ],
-    );
-    look(w);
-    two
-}
-
+// Two words more than a record has; one byte more than a frame can have; more bytes than the longest answer, that of 256 waiting questions.
 fn main() {
-    let mut w = [0u32; RECORD_WORDS];
-    look(&w);
-    show::outcome(ring::fresh(&mut w, &[100, 200, 300]));
-    look(&w);
-    row(&w, 3);
-    let joined = plug_in(&mut w, nothing_counted());
-    let left = take_out(&mut w, joined);
-    show::counts(walk(&mut w, left, &[9, 0, 0, 0, 1, 1, 3, 0, 1]));
-    // A record that no ring reaches: hub 0's succ is hub 1, which is outside and has none.
-    w[9] = 1;
-    roll(&w, 0);
+    let mut record = [0u32; 1990];
+    let mut line = [0u8; 515];
+    let mut out = [0u8; 32768];
+    let mut input = [0u8; 8192];
+    run(&mut record, &mut line, &mut out, begun(), &mut input);
 }

@@ -1,9 +1,8 @@
 -- What one turn of the loop does, by what its read brought. Assumes nothing.
-use mathlib.Core.Path.{_≡_, ap, _∙_, subst}
+use mathlib.Core.Path.{_≡_, ap, _∙_}
 use mathlib.Core.List.{List, []}
 use Prim.Native.Nat.{ℕ}
 use lib.ListN.{take}
-use Rattle.console.specs.Arrivals.{Arrived}
 use Rattle.console.specs.declared.arriving.Arrival.{Arrival}
 use Rattle.console.specs.declared.arriving.Arrival.the-variants.{Bytes, End, Failed}
 use Rattle.protocol.specs.Ringrun.{Standing, ended}
@@ -17,9 +16,6 @@ turned w begun input End = ended (record { slice = w; begun = begun; printed = [
 turned w begun input Failed = record { slice = w; begun = begun; printed = [] }
 
 module _ (r : Arrival) (n : ℕ) (w begun input : List ℕ) where
-  pub arrived : r ≡ Bytes n → Arrived r input → Arrived (Bytes n) input
-  arrived e a = subst (λ z. Arrived z input) e a
-
   module _ (after : Standing) where
     pub after-bytes : taken w begun (take n input) ≡ after → turned w begun input (Bytes n) ≡ after
     unfolding turned

@@ -1,9 +1,9 @@
 // Reads frames from standard input, one a line, and prints one line each (document 01, '`ringrun`'). What is done with the bytes of a read is
 // proved in `stream`; here they are only carried in and out.
 use console::Arrival;
+use console::drop_line;
 use console::receive;
 use console::send;
-use console::tell_dropped;
 use protocol::form::RECORD_WORDS;
 use stream::finish;
 use stream::take_bytes;
@@ -51,17 +51,6 @@ fn take_some(w: &mut [u32], line: &mut [u8], out: &mut [u8], held: usize, input:
     }
 }
 
-// What was begun of a line when a read failed is not answered: it is no line yet, and what follows is not known.
-fn drop_line(held: usize) {
-    if held > 0 {
-        tell_dropped(
-            b"ringrun",
-            held,
-            b" bytes held of a line that had not ended were dropped",
-        );
-    }
-}
-
 // Whether the run goes on. The answers are written before the next read: whoever waits at the other end of a modem gets them now. Where they
 // cannot be written it ends, since nobody would see the later ones.
 fn goes_on(t: Turn, out: &[u8]) -> bool
@@ -74,7 +63,7 @@ fn goes_on(t: Turn, out: &[u8]) -> bool
         Arrival::Bytes(_) => is_written,
         Arrival::End => false,
         Arrival::Failed => {
-            drop_line(t.held);
+            drop_line(b"ringrun", t.held);
             false
         }
     }

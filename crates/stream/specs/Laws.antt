@@ -5,7 +5,7 @@ use mathlib.Core.List.{List, [], _∷_, _++_}
 use Prim.Native.Nat.{ℕ, _+_, _-_, _≤_, _<_}
 use native.Mathlib.Numerals.{add-one}
 use native.Mathlib.Omega.{arith}
-use lib.ListN.{length, take, drop, set, getD, length-take, length-drop}
+use lib.ListN.{length, take, drop, set, getD, length-take}
 use lib.Dec.{eqb}
 use lib.Seq.{paste, paste-suc, take-paste, drop-paste, length-take-le, drop-drop, drop-length, take-all}
 use borrow.Author.Tests.{ne-eqb}
@@ -13,7 +13,6 @@ use Rattle.lists.specs.Basics.{if_then_else_}
 use Rattle.protocol.specs.declared.Line.{Line}
 use Rattle.protocol.specs.Frames.{lineCall}
 use Rattle.console.specs.Lines.{Gathering, kept, gathered}
-use Rattle.console.specs.Laws.{left-shorter}
 use Rattle.protocol.specs.Ringrun.{textOf, Standing, lineEnded, byteFed, fed, ended}
 use Rattle.stream.specs.Pieces.{cut, cut-fed}
 
@@ -70,9 +69,6 @@ module _ (w begun printed input part left : List ℕ) (n : ℕ) (e : Bool) (size
   unfolding resumed if_then_else_
   line-goes-on t = known ∙ rw t
 
-  pub bytes-taken : 0 < length input → length left < length input
-  bytes-taken h = rw got at (left-shorter n begun input h)
-
 -- the end of the input
 module _ (w line : List ℕ) (held : ℕ) where
   pub nothing-begun : held ≡ 0 → ended (record { slice = w; begun = take held line; printed = [] }) ≡ record { slice = w; begun = []; printed = [] }
@@ -85,9 +81,6 @@ module _ (w line : List ℕ) (held : ℕ) where
   last-line h k after a = rw (length-take-le held line k, ne-eqb held 0 h) a
 
 -- from turn to turn
-pub goes-further : (input : List ℕ) (at at′ : ℕ) → at < length input → length (drop at′ input) < length (drop at input) → at < at′
-goes-further input at at′ h k = omega (arith, length-drop at input, length-drop at′ input)
-
 pub drop-further : (a b : ℕ) (l m : List ℕ) → a ≤ b → drop a l ≡ drop a m → drop b l ≡ drop b m
 drop-further a b l m h e =
     let s : b ≡ a + (b - a) = omega arith in

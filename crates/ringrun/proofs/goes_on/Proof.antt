@@ -26,6 +26,9 @@ enum-told-2 c = search needs
 enum-told-3 : tie.Need-enum-told-3
 enum-told-3 c = search needs
 
+slice-aggregate-drop-line : tie.Need-slice-aggregate-drop-line
+slice-aggregate-drop-line c = search needs
+
 drop-line-requires : tie.Need-drop-line-requires
 drop-line-requires c κs = search needs
 
@@ -48,6 +51,7 @@ goes-on-spec =
     enum-told
     enum-told-2
     enum-told-3
+    slice-aggregate-drop-line
     drop-line-requires
     returns
     returns-2

@@ -1,7 +1,8 @@
 -- `take_some`: what the read brought is a part of the block, and is taken; at the end of the input the last line is. Assumes nothing.
 use borrow.Author.Needs.{needs}
 use native.Mathlib.Omega.{arith}
-use Rattle.ringrun.specs.Turns.{arrived, after-bytes, after-end, after-failure}
+use Rattle.console.specs.Arrivals.{arrived}
+use Rattle.ringrun.specs.Turns.{after-bytes, after-end, after-failure}
 use Rattle.ringrun.proofs.take_some.Statement.{statement}
 use Rattle.ringrun.proofs.take_some.Tie as tie
 
@@ -15,14 +16,14 @@ enum-known-arrival : tie.Need-enum-known-arrival
 enum-known-arrival c = search needs
 
 slice-reshare-prefix-take-bytes : tie.Need-slice-reshare-prefix-take-bytes
-slice-reshare-prefix-take-bytes c = (arrived (c .before .before .before .before .before .before .before .before .receive .result) (c .before .before .before .before .arrival .given .0 .0) (c .before .before .before .before .before .before .before .before .before .before .before .before .before .before .before .args .w .now) (c .before .before .before .before .before .before .before .before .before .before .before .before .before .before .before .args .line .now) (c .before .before .before .before .before .before .before .before .receive .last .1 .0) (c .before .before .before .before .arrival .given .1) (c .before .before .before .before .before .before .before .before .receive .ensures)) .0
+slice-reshare-prefix-take-bytes c = (arrived (c .before .before .before .before .before .before .before .before .receive .result) (c .before .before .before .before .arrival .given .0 .0) (c .before .before .before .before .before .before .before .before .receive .last .1 .0) (c .before .before .before .before .arrival .given .1) (c .before .before .before .before .before .before .before .before .receive .ensures)) .0
 
 slice-aggregate-take-bytes : tie.Need-slice-aggregate-take-bytes
-slice-aggregate-take-bytes c = (arrived (c .before .before .before .before .before .before .before .before .before .receive .result) (c .before .before .before .before .before .arrival .given .0 .0) (c .before .before .before .before .before .before .before .before .before .before .before .before .before .before .before .before .args .w .now) (c .before .before .before .before .before .before .before .before .before .before .before .before .before .before .before .before .args .line .now) (c .before .before .before .before .before .before .before .before .before .receive .last .1 .0) (c .before .before .before .before .before .arrival .given .1) (c .before .before .before .before .before .before .before .before .before .receive .ensures)) .1
+slice-aggregate-take-bytes c = (arrived (c .before .before .before .before .before .before .before .before .before .receive .result) (c .before .before .before .before .before .arrival .given .0 .0) (c .before .before .before .before .before .before .before .before .before .receive .last .1 .0) (c .before .before .before .before .before .arrival .given .1) (c .before .before .before .before .before .before .before .before .before .receive .ensures)) .1
 
 take-bytes-requires : tie.Need-take-bytes-requires
 take-bytes-requires c κs =
-    let counts = arrived (c .before .before .before .before .before .before .before .before .before .receive .result) (c .before .before .before .before .before .arrival .given .0 .0) (c .before .before .before .before .before .before .before .before .before .before .before .before .before .before .before .before .args .w .now) (c .before .before .before .before .before .before .before .before .before .before .before .before .before .before .before .before .args .line .now) (c .before .before .before .before .before .before .before .before .before .receive .last .1 .0) (c .before .before .before .before .before .arrival .given .1) (c .before .before .before .before .before .before .before .before .before .receive .ensures) in
+    let counts = arrived (c .before .before .before .before .before .before .before .before .before .receive .result) (c .before .before .before .before .before .arrival .given .0 .0) (c .before .before .before .before .before .before .before .before .before .receive .last .1 .0) (c .before .before .before .before .before .arrival .given .1) (c .before .before .before .before .before .before .before .before .before .receive .ensures) in
     let pre = c .before .before .before .before .before .before .before .before .before .before .before .before .before .before .before .before .pre in
     (pre .0, pre .1, omega (arith, counts .0, counts .1, pre .2, c .before .before .before .before .before .before .before .before .before .receive .kept .1 .0))
 

@@ -3,9 +3,9 @@ use borrow.Author.Needs.{needs}
 use native.Mathlib.Omega.{arith}
 use mathlib.Core.Path.{refl, sym}
 use Prim.Native.Nat.{_<_}
-use lib.ListN.{length, take, drop, length-drop}
+use lib.ListN.{length, take, drop}
 use lib.Seq.{length-take-le}
-use Rattle.stream.specs.Laws.{line-ends, line-goes-on, bytes-taken, goes-further}
+use Rattle.stream.specs.Laws.{line-ends, line-goes-on}
 use Rattle.stream.proofs.taking.take_line.Statement.{statement}
 use Rattle.stream.proofs.taking.take_line.Tie as tie
 
@@ -37,9 +37,7 @@ returns c =
     let args = c .before .before .before .before .before .before .before .before .before .before .before .before .before .before .before .before .before .args in
     let pre = c .before .before .before .before .before .before .before .before .before .before .before .before .before .before .before .before .before .pre in
     let gather = c .before .before .before .before .before .before .before .before .before .before .before .gather in
-    let further : args .at < gather .result .at =
-    goes-further (args .input .now) (args .at) (gather .result .at) (pre .2)
-    (bytes-taken (args .w .now) (take (args .held) (args .line .now)) (take (args .waiting) (args .out .now)) (drop (args .at) (args .input .now)) (take (gather .result .held) (gather .last .0)) (drop (gather .result .at) (args .input .now)) (length (args .line .now)) (gather .result .ended) (pre .1) (gather .ensures .0) (rw length-drop (omega arith))) in
+    let further : args .at < gather .result .at = gather .ensures .3 (pre .2) in
     (line-ends (args .w .now) (take (args .held) (args .line .now)) (take (args .waiting) (args .out .now)) (drop (args .at) (args .input .now)) (take (gather .result .held) (gather .last .0)) (drop (gather .result .at) (args .input .now)) (length (args .line .now)) (gather .result .ended) (pre .1) (gather .ensures .0) (c .before .before .before .before .before .before .before .before .if1 .taken) _ (c .before .before .before .before .answer .ensures .0), omega (arith, gather .ensures .1), further, gather .ensures .2, omega (arith, c .before .before .before .before .answer .ensures .2), c .before .before .before .before .answer .ensures .1, c .before .before .before .before .answer .ensures .3)
 
 same-length-4 : tie.Need-same-length-4
@@ -50,9 +48,7 @@ returns-2 c =
     let args = c .before .before .before .before .before .before .before .before .before .args in
     let pre = c .before .before .before .before .before .before .before .before .before .pre in
     let gather = c .before .before .before .gather in
-    let further : args .at < gather .result .at =
-    goes-further (args .input .now) (args .at) (gather .result .at) (pre .2)
-    (bytes-taken (args .w .now) (take (args .held) (args .line .now)) (take (args .waiting) (args .out .now)) (drop (args .at) (args .input .now)) (take (gather .result .held) (gather .last .0)) (drop (gather .result .at) (args .input .now)) (length (args .line .now)) (gather .result .ended) (pre .1) (gather .ensures .0) (rw length-drop (omega arith))) in
+    let further : args .at < gather .result .at = gather .ensures .3 (pre .2) in
     (line-goes-on (args .w .now) (take (args .held) (args .line .now)) (take (args .waiting) (args .out .now)) (drop (args .at) (args .input .now)) (take (gather .result .held) (gather .last .0)) (drop (gather .result .at) (args .input .now)) (length (args .line .now)) (gather .result .ended) (pre .1) (gather .ensures .0) (c .if1 .left), omega (arith, gather .ensures .1), further, gather .ensures .2, omega arith, omega arith, refl)
 
 pub take-line-spec : {M : Type 1} → statement M
