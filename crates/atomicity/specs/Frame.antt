@@ -10,7 +10,7 @@ use Rattle.lists.specs.Members.{Off}
 use Rattle.atomicity.specs.Invariant.{Hubs, Msg, owners, Points, Plain, Flagged, Linked, Loc, Idle}
 use Rattle.atomicity.specs.Invariant.{lookup, join, joinRetry, joinPoint, newSucc, newSuccAck, joinDone}
 use Rattle.atomicity.specs.Invariant.{leaveReq, leaveRetry, leaveGrant, leavePoint, updateSucc, stopForward, leaveDone}
-use Rattle.protocol.specs.Names.{INSIDE, LEAVING, WANTING-TO-LEAVE}
+use Rattle.protocol.specs.Names.{INSIDE, LEAVING, WANTING-TO-LEAVE, JOINING}
 
 -- the parts of a message's condition, at rows that are the same in both states
 module _ {S S′ : Hubs} where
@@ -54,7 +54,7 @@ module _ {S S′ : Hubs} {is : List ℕ} (k : Keeps S S′ is) where
 
   pub keep-idle : (h : ℕ) → Off is h → Idle S h → Idle S′ h
   keep-idle h o (inl e) = inl (ap (λ r. r .state) (k .core h o) ∙ e)
-  keep-idle h o (inr x) = inr (keep-linked h 2 o x)
+  keep-idle h o (inr x) = inr (keep-linked h INSIDE o x)
 
   st-keep : (h c : ℕ) → Off is h → S .core h .state ≡ c → S′ .core h .state ≡ c
   st-keep h c o e = ap (λ r. r .state) (k .core h o) ∙ e
@@ -62,53 +62,53 @@ module _ {S S′ : Hubs} {is : List ℕ} (k : Keeps S S′ is) where
   -- the frame lemma: the condition of a message that has no hub of `is`
   pub frame : (m : Msg) → All (Off is) (owners m) → Loc S m → Loc S′ m
   frame (lookup x y v i hops) o l = tt
-  frame (join x y a) o l = (st-keep a 1 (o .0) (l .0), k .led a (o .0) ∙ l .1)
-  frame (joinRetry x a) o l = (st-keep a 1 (o .0) (l .0), k .led a (o .0) ∙ l .1)
+  frame (join x y a) o l = (st-keep a JOINING (o .0) (l .0), k .led a (o .0) ∙ l .1)
+  frame (joinRetry x a) o l = (st-keep a JOINING (o .0) (l .0), k .led a (o .0) ∙ l .1)
   frame (joinPoint a t p) o l = (
-    st-keep a 1 (o .0) (l .0),
+    st-keep a JOINING (o .0) (l .0),
     k .led a (o .0) ∙ l .1,
     keep-flagged t a p (o .1 .0) (l .2),
     keep-points p t (o .1 .0) (l .3),
   )
   frame (newSucc a t p) o l = (
-    keep-plain a 2 p (o .0) (l .0),
+    keep-plain a INSIDE p (o .0) (l .0),
     keep-succ a t (o .1 .0) (omega (arith, l .0 .state)) (omega (arith, l .0 .state)) (l .1),
     keep-flagged t a p (o .1 .0) (l .2),
     keep-points p t (o .1 .0) (l .3),
   )
   frame (newSuccAck a t p) o l = (
-    keep-plain a 2 p (o .0) (l .0),
+    keep-plain a INSIDE p (o .0) (l .0),
     keep-succ a t (o .1 .0) (omega (arith, l .0 .state)) (omega (arith, l .0 .state)) (l .1),
     keep-flagged t a p (o .1 .0) (l .2),
     keep-points p a (o .0) (l .3),
   )
-  frame (joinDone a t) o l = keep-linked a 2 (o .0) l
-  frame (leaveReq q y) o l = (keep-linked q 3 (o .0) (l .0), k .self q (o .0) (l .1))
-  frame (leaveRetry x q) o l = (keep-linked q 3 (o .0) (l .0), k .self q (o .0) (l .1))
+  frame (joinDone a t) o l = keep-linked a INSIDE (o .0) l
+  frame (leaveReq q y) o l = (keep-linked q WANTING-TO-LEAVE (o .0) (l .0), k .self q (o .0) (l .1))
+  frame (leaveRetry x q) o l = (keep-linked q WANTING-TO-LEAVE (o .0) (l .0), k .self q (o .0) (l .1))
   frame (leaveGrant q t) o l = (
-    keep-linked q 3 (o .0) (l .0),
+    keep-linked q WANTING-TO-LEAVE (o .0) (l .0),
     keep-succ q t (o .1 .0) (omega (arith, l .0 .state)) (omega (arith, l .0 .state)) (l .1),
-    keep-plain t 2 q (o .1 .0) (l .2),
+    keep-plain t INSIDE q (o .1 .0) (l .2),
   )
   frame (leavePoint q t p) o l = (
-    keep-plain q 4 p (o .0) (l .0),
+    keep-plain q LEAVING p (o .0) (l .0),
     k .led q (o .0) ∙ l .1,
     keep-points p q (o .0) (l .2),
     keep-succ q t (o .1 .0) (omega (arith, l .0 .state)) (omega (arith, l .0 .state)) (l .3),
-    keep-plain t 2 q (o .1 .0) (l .4),
+    keep-plain t INSIDE q (o .1 .0) (l .4),
   )
   frame (updateSucc q t p) o l = (
-    keep-plain q 4 p (o .0) (l .0),
+    keep-plain q LEAVING p (o .0) (l .0),
     k .led q (o .0) ∙ l .1,
     keep-points p q (o .0) (l .2),
     keep-succ q t (o .1 .0) (omega (arith, l .0 .state)) (omega (arith, l .0 .state)) (l .3),
-    keep-plain t 2 p (o .1 .0) (l .4),
+    keep-plain t INSIDE p (o .1 .0) (l .4),
   )
   frame (stopForward q t p) o l = (
-    keep-plain q 4 p (o .0) (l .0),
+    keep-plain q LEAVING p (o .0) (l .0),
     k .led q (o .0) ∙ l .1,
     keep-points p t (o .1 .0) (l .2),
     keep-succ q t (o .1 .0) (omega (arith, l .0 .state)) (omega (arith, l .0 .state)) (l .3),
-    keep-plain t 2 p (o .1 .0) (l .4),
+    keep-plain t INSIDE p (o .1 .0) (l .4),
   )
-  frame (leaveDone q t) o l = keep-linked t 2 (o .0) l
+  frame (leaveDone q t) o l = keep-linked t INSIDE (o .0) l

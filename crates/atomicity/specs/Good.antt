@@ -21,7 +21,7 @@ use Rattle.protocol.specs.declared.Answer.{Answer}
 use Rattle.protocol.specs.declared.Answer.the-variants.{Quiet, Found, Entered, Gone, JoinTurnedAway, LeaveTurnedAway, Joined, Left}
 use Rattle.protocol.specs.declared.Route.{Route}
 use Rattle.protocol.specs.declared.Route.the-variants.{Own, To}
-use Rattle.protocol.specs.Names.{LEAVING}
+use Rattle.protocol.specs.Names.{LEAVING, LOOKUP}
 use Rattle.protocol.specs.Record.{round, State, outside}
 use Rattle.protocol.specs.Routing.{covers, onward, route}
 use Rattle.protocol.specs.Step.{Result, refused, accepted}
@@ -102,10 +102,10 @@ asks m = length (ticket m)
 pub record Numbers (c : ℕ) (m : Msg) : Type 0 where
   pub src : from m < c
   pub dst : to m < c
-  pub point : erase m .kind ≡ 1 → erase m .a < round
+  pub point : erase m .kind ≡ LOOKUP → erase m .a < round
 
 -- the numbers of a message that is no question
-pub nums : {c : ℕ} (m : Msg) → from m < c → to m < c → erase m .kind ≢ 1 → Numbers c m
+pub nums : {c : ℕ} (m : Msg) → from m < c → to m < c → erase m .kind ≢ LOOKUP → Numbers c m
 nums m f t k = record { src = f; dst = t; point = λ e. absurd (k e) }
 
 -- id are the identifiers, c the number of hubs, members the ledger, ks the tickets answered, ms the messages with their participants

@@ -57,7 +57,7 @@ module _ (n : ℕ) (id : ℕ → ℕ) (small : (h : ℕ) → id h < n) (c : ℕ)
         idle = (busy (S .core a) a (all a) (locked i a (inl refl)), (busy (S .core b) b (all b) (locked i b (inr (inl refl))), tt));
         fresh = (
           (
-            plain-at a 2 p (all a) (L .0),
+            plain-at a INSIDE p (all a) (L .0),
             w .offs a (λ e. np (sym e)) ∙ L .1,
             flagged-at b a p (all b) (L .2),
             record { low = rw (w .core) (pt .low); high = rw (w .core) (pt .high); at = w .succ },

@@ -33,7 +33,7 @@ module _ (n : ℕ) (id : ℕ → ℕ) (small : (h : ℕ) → id h < n) (c : ℕ)
         idle = (busy _ b (w .core) refl, (busy _ q offq (locked i q (inl refl)), tt));
         fresh = (
           (
-            linked-at q 3 offq (L .0) (points-row w _ q refl (λ l u. (l, u))),
+            linked-at q WANTING-TO-LEAVE offq (L .0) (points-row w _ q refl (λ l u. (l, u))),
             w .offs q nq ∙ o .at,
             record { state = rw (w .core) (B .state); flag = rw (w .core) (B .flag); pred = rw (w .core) (known (f .knows lq)) },
           ),
@@ -145,7 +145,7 @@ module _ (n : ℕ) (id : ℕ → ℕ) (small : (h : ℕ) → id h < n) (c : ℕ)
             ls q ∙ i .member q .inside (omega (arith, L .0 .state)) (omega (arith, L .0 .state)),
             points-at _ q (w .off _ np) (w .offs _ np) (L .0 .back),
             w .succ ∙ L .1,
-            plain-at b 2 q offb (L .2),
+            plain-at b INSIDE q offb (L .2),
           ),
           tt,
         );
@@ -189,11 +189,11 @@ module _ (n : ℕ) (id : ℕ → ℕ) (small : (h : ℕ) → id h < n) (c : ℕ)
         idle = (busy _ q (all q) (locked i q (inl refl)), (busy _ b (all b) (locked i b (inr (inl refl))), tt));
         fresh = (
           (
-            plain-at q 4 p (all q) (L .0),
+            plain-at q LEAVING p (all q) (L .0),
             ls q ∙ L .1,
             record { low = rw (w .core) (L .2 .low); high = rw (w .core) (L .2 .high); at = w .succ },
             w .offs q (λ e. omega (arith, L .0 .state, L .2 .high, ap (λ x. S .core x .state) e)) ∙ L .3,
-            plain-at b 2 p (all b) (L .4),
+            plain-at b INSIDE p (all b) (L .4),
           ),
           tt,
         );

@@ -15,7 +15,7 @@ use Rattle.atomicity.specs.Invariant.{leavePoint, updateSucc}
 use Rattle.atomicity.specs.Frame.{plain-at}
 use Rattle.atomicity.specs.OneStep.{closed-grow, no-join, Clear, take-out, change, apart-same, apart-more, locked, distinct}
 use Rattle.atomicity.specs.Calm.{Rewritten, points-row, fwd-same, Serves, busy}
-use Rattle.protocol.specs.Names.{INSIDE}
+use Rattle.protocol.specs.Names.{INSIDE, LEAVING}
 
 module _ (n : ℕ) (id : ℕ → ℕ) (small : (h : ℕ) → id h < n) (c : ℕ) (inj : (a b : ℕ) → a < c → b < c → id a ≡ id b → a ≡ b)
     (S S′ : Hubs) (s t : List Msg) where
@@ -156,7 +156,7 @@ module _ (n : ℕ) (id : ℕ → ℕ) (small : (h : ℕ) → id h < n) (c : ℕ)
     idle = (busy _ q offq (locked i q (inl refl)), (busy _ b (w .core) (locked i b (inr (inl refl))), tt));
     fresh = (
       (
-        plain-at q 4 p offq (L .0),
+        plain-at q LEAVING p offq (L .0),
         lq,
         points-row w p q refl (λ l u. (l, u)) (L .2),
         w .offs q (distinct i) ∙ L .3,

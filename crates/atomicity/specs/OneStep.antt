@@ -12,7 +12,7 @@ use Rattle.lists.specs.Members.{mem-split, mem-left, mem-right, mem-put, all-me
 use Rattle.atomicity.specs.Neighbours.{PredL}
 use Rattle.atomicity.specs.Invariant.{Hubs, Msg, erase, from, to, owners, carriers, Loc, Idle, Fwd, Flags, Member, asks, closes, Closed, Way, Fifo, Inv, joinPoint}
 use Rattle.atomicity.specs.Frame.{Keeps, keep-idle, frame}
-use Rattle.protocol.specs.Names.{INSIDE, JOINING, LEAVING}
+use Rattle.protocol.specs.Names.{INSIDE, JOINING, LEAVING, JOINPOINT}
 
 -- counting
 
@@ -86,7 +86,7 @@ no-join-grow x y v new none old p m = go (mem-split (joinPoint y x p) v new m)
     go (inr m) = none y x p m
 
 -- one message that is no JOINPOINT
-pub no-join : (m : Msg) → erase m .kind ≢ 4 → (a t p : ℕ) → Mem (joinPoint a t p) (m ∷ []) → ⊥
+pub no-join : (m : Msg) → erase m .kind ≢ JOINPOINT → (a t p : ℕ) → Mem (joinPoint a t p) (m ∷ []) → ⊥
 no-join m k a t p (inl e) = k (ap (λ x. erase x .kind) (sym e))
 no-join m k a t p (inr e) = e
 

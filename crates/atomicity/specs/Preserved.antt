@@ -24,7 +24,7 @@ use Rattle.protocol.specs.declared.Route.{Route}
 use Rattle.protocol.specs.declared.Route.the-variants.{Own, To}
 use Rattle.protocol.specs.declared.Decision.{Decision}
 use Rattle.protocol.specs.declared.Decision.the-variants.{Refuse, Reply, Send}
-use Rattle.protocol.specs.Names.{INSIDE, JOINING, LEAVING, NO-OPERATION, NOT-EXPECTED, OUTSIDE, WANTING-TO-LEAVE}
+use Rattle.protocol.specs.Names.{INSIDE, JOINING, LEAVING, NO-OPERATION, NOT-EXPECTED, OUTSIDE, WANTING-TO-LEAVE, JOIN, JOINRETRY, JOINPOINT, NEWSUCC, NEWSUCCACK, JOINDONE, LEAVEREQ, LEAVERETRY, LEAVEGRANT, LEAVEPOINT, UPDATESUCC, STOPFORWARD, LEAVEDONE, LOOKUP}
 use Rattle.protocol.specs.Record.{mostNodes, mostMessages, none, State, count, row, identifier, message, noMessage, outside, withRow, sent, withoutMessage, ticketed}
 use Rattle.protocol.specs.WellFormed.{namesNode}
 use Rattle.protocol.specs.Fresh.{founder, alone, foundedBy, fresh}
@@ -109,12 +109,12 @@ module _ (n q : ℕ) (h : Row) (r : RowForm n h) (m : Message) (ok : MessageForm
     flag = elim (r .flag) [ inl k ↦ inl k | inr k ↦ absurd (omega arith) ];
   }
 
-  hops-form : m .kind ≡ 1 → grown m ≤ 65535
+  hops-form : m .kind ≡ LOOKUP → grown m ≤ 65535
   unfolding grown
   hops-form e =
       choose (λ z. z ≤ 65535) (ltb (m .hops) 65535) (m .hops + 1) (m .hops) (λ t. omega (arith, ltb→lt (m .hops) 65535 t)) (λ _. ok .lookup e .1)
 
-  lookup-routed-sound : m .kind ≡ 1 → (z : Route) → Leads n z → Well (lookupRouted h m z)
+  lookup-routed-sound : m .kind ≡ LOOKUP → (z : Route) → Leads n z → Well (lookupRouted h m z)
   unfolding lookupRouted namesNode
   lookup-routed-sound e Own l = (r, refl)
   lookup-routed-sound e (To z) l = (
@@ -132,7 +132,7 @@ module _ (n q : ℕ) (h : Row) (r : RowForm n h) (m : Message) (ok : MessageForm
     },
   )
 
-  lookup-sound : (p : ℕ) → m .kind ≡ 1 → Well (kinds.lookup p h m)
+  lookup-sound : (p : ℕ) → m .kind ≡ LOOKUP → Well (kinds.lookup p h m)
   unfolding kinds.lookup
   lookup-sound p e =
       if-else (inRing h) _
@@ -140,13 +140,13 @@ module _ (n q : ℕ) (h : Row) (r : RowForm n h) (m : Message) (ok : MessageForm
 
   retried-sound : m .a < n → Well (kinds.joinRetried h m)
   unfolding namesNode
-  retried-sound la = (r, refl, note-form 3 (m .to) (m .a) 0 (omega arith) (omega arith) (ok .to) la (λ t. absurd t) (λ _. refl))
+  retried-sound la = (r, refl, note-form JOINRETRY (m .to) (m .a) 0 (omega arith) (omega arith) (ok .to) la (λ t. absurd t) (λ _. refl))
 
   join-routed-sound : m .a < n → INSIDE ≤ h .state → (z : Route) → Leads n z → Well (joinRouted h m z)
   unfolding joinRouted namesNode
   join-routed-sound la k Own l =
       choose Well (eqb (h .lock) 1) _ _ (λ _. retried-sound la)
-      (λ t. (enters t, refl, note-form 4 (m .to) (m .a) (h .pred) (omega arith) (omega arith) (ok .to) la (λ _. (r .linked k .0)) (λ f. absurd (f tt))))
+      (λ t. (enters t, refl, note-form JOINPOINT (m .to) (m .a) (h .pred) (omega arith) (omega arith) (ok .to) la (λ _. (r .linked k .0)) (λ f. absurd (f tt))))
     where
       two : T (not (eqb (h .lock) 1)) → Dec (h .state ≡ INSIDE) → h .state ≡ INSIDE
       two t (yes e) = e
@@ -162,7 +162,7 @@ module _ (n q : ℕ) (h : Row) (r : RowForm n h) (m : Message) (ok : MessageForm
         locked = λ _ _. refl;
         flag = inr (refl, two t (ℕ-discrete (h .state) INSIDE), refl, r .linked k .0);
       }
-  join-routed-sound la k (To z) l = (r, refl, note-form 2 (m .to) z (m .a) (omega arith) (omega arith) (ok .to) l (λ _. la) (λ f. absurd (f tt)))
+  join-routed-sound la k (To z) l = (r, refl, note-form JOIN (m .to) z (m .a) (omega arith) (omega arith) (ok .to) l (λ _. la) (λ f. absurd (f tt)))
 
   join-sound : (p : ℕ) (g : Row) → m .a < n → Well (kinds.join p h g m)
   unfolding kinds.join
@@ -201,14 +201,14 @@ module _ (n q : ℕ) (h : Row) (r : RowForm n h) (m : Message) (ok : MessageForm
           flag = inl (down (λ x. omega arith));
         },
         refl,
-        note-form 5 (m .to) (m .a) 0 (omega arith) (omega arith) (ok .to) la (λ t. absurd t) (λ _. refl),
+        note-form NEWSUCC (m .to) (m .a) 0 (omega arith) (omega arith) (ok .to) la (λ t. absurd t) (λ _. refl),
       )
 
   new-succ-sound : Well (kinds.newSucc h m)
   unfolding kinds.newSucc namesNode
   new-succ-sound = if-else (responsible h) _ λ t.
       let w = responsible-states h t in
-      (turn (m .from) (ok .from) (w .0), refl, note-form 6 (m .to) (h .succ) (m .from) (omega arith) (omega arith) (ok .to) (r .linked (w .0) .1) (λ _. (ok .from)) (λ f. absurd (f tt)))
+      (turn (m .from) (ok .from) (w .0), refl, note-form NEWSUCCACK (m .to) (h .succ) (m .from) (omega arith) (omega arith) (ok .to) (r .linked (w .0) .1) (λ _. (ok .from)) (λ f. absurd (f tt)))
 
   new-succ-ack-sound : m .a < n → Well (kinds.newSuccAck h m)
   unfolding kinds.newSuccAck namesNode
@@ -224,7 +224,7 @@ module _ (n q : ℕ) (h : Row) (r : RowForm n h) (m : Message) (ok : MessageForm
           flag = inl (refl, refl);
         },
         refl,
-        note-form 7 (m .to) (m .a) 0 (omega arith) (omega arith) (ok .to) la (λ t. absurd t) (λ _. refl),
+        note-form JOINDONE (m .to) (m .a) 0 (omega arith) (omega arith) (ok .to) la (λ t. absurd t) (λ _. refl),
       )
 
   -- state 2, lock 1, flag 0: the lock is freed
@@ -239,7 +239,7 @@ module _ (n q : ℕ) (h : Row) (r : RowForm n h) (m : Message) (ok : MessageForm
   leave-req-sound = if-else (inRing h) _ λ t.
       let w = ring-states h t in
       choose Well (eqb (h .lock) 1) _ _
-      (λ _. (r, refl, note-form 9 (m .to) (m .from) 0 (omega arith) (omega arith) (ok .to) (ok .from) (λ t. absurd t) (λ _. refl)))
+      (λ _. (r, refl, note-form LEAVERETRY (m .to) (m .from) 0 (omega arith) (omega arith) (ok .to) (ok .from) (λ t. absurd t) (λ _. refl)))
       (λ _. (
         record {
           state = r .state;
@@ -251,7 +251,7 @@ module _ (n q : ℕ) (h : Row) (r : RowForm n h) (m : Message) (ok : MessageForm
           flag = elim (r .flag) [ inl k ↦ inl k | inr k ↦ inr (k .0, k .1, refl, k .3) ];
         },
         refl,
-        note-form 10 (m .to) (m .from) 0 (omega arith) (omega arith) (ok .to) (ok .from) (λ t. absurd t) (λ _. refl),
+        note-form LEAVEGRANT (m .to) (m .from) 0 (omega arith) (omega arith) (ok .to) (ok .from) (λ t. absurd t) (λ _. refl),
       ))
 
   leave-retry-sound : Well (kinds.leaveRetry h m)
@@ -285,7 +285,7 @@ module _ (n q : ℕ) (h : Row) (r : RowForm n h) (m : Message) (ok : MessageForm
           flag = inl (down (λ x. omega arith));
         },
         refl,
-        note-form 11 (m .to) (m .from) (h .pred) (omega arith) (omega arith) (ok .to) (ok .from) (λ _. (b .0)) (λ f. absurd (f tt)),
+        note-form LEAVEPOINT (m .to) (m .from) (h .pred) (omega arith) (omega arith) (ok .to) (ok .from) (λ _. (b .0)) (λ f. absurd (f tt)),
       )
 
   leave-point-sound : m .a < n → Well (kinds.leavePoint h m)
@@ -302,14 +302,14 @@ module _ (n q : ℕ) (h : Row) (r : RowForm n h) (m : Message) (ok : MessageForm
           flag = r .flag;
         },
         refl,
-        note-form 12 (m .to) (m .a) 0 (omega arith) (omega arith) (ok .to) la (λ t. absurd t) (λ _. refl),
+        note-form UPDATESUCC (m .to) (m .a) 0 (omega arith) (omega arith) (ok .to) la (λ t. absurd t) (λ _. refl),
       )
 
   update-succ-sound : Well (kinds.updateSucc h m)
   unfolding kinds.updateSucc namesNode
   update-succ-sound = if-else (responsible h) _ λ t.
       let w = responsible-states h t in
-      (turn (m .from) (ok .from) (w .0), refl, note-form 13 (m .to) (h .succ) 0 (omega arith) (omega arith) (ok .to) (r .linked (w .0) .1) (λ t. absurd t) (λ _. refl))
+      (turn (m .from) (ok .from) (w .0), refl, note-form STOPFORWARD (m .to) (h .succ) 0 (omega arith) (omega arith) (ok .to) (r .linked (w .0) .1) (λ t. absurd t) (λ _. refl))
 
   stop-forward-sound : Well (kinds.stopForward h m)
   unfolding kinds.stopForward namesNode
@@ -325,7 +325,7 @@ module _ (n q : ℕ) (h : Row) (r : RowForm n h) (m : Message) (ok : MessageForm
           flag = inl (down (λ x. omega arith) .0, refl);
         },
         refl,
-        note-form 14 (m .to) (h .succ) 0 (omega arith) (omega arith) (ok .to) (r .linked (omega arith) .1) (λ t. absurd t) (λ _. refl),
+        note-form LEAVEDONE (m .to) (h .succ) 0 (omega arith) (omega arith) (ok .to) (r .linked (omega arith) .1) (λ t. absurd t) (λ _. refl),
       )
 
   -- a message of a kind that names a hub
@@ -470,7 +470,7 @@ module _ (s : State) (f : Form s) where
           flag = elim (r .flag) [ inl k ↦ inl k | inr k ↦ absurd (omega arith) ];
         },
         refl,
-        note-form 2 x y x (omega arith) (omega arith) lx ly (λ _. lx) (λ f. absurd (f tt)),
+        note-form JOIN x y x (omega arith) (omega arith) lx ly (λ _. lx) (λ f. absurd (f tt)),
       )
 
   leave-form : (x : ℕ) → Leaves (step.leave s x)
@@ -492,7 +492,7 @@ module _ (s : State) (f : Form s) where
           flag = elim (r .flag) [ inl k ↦ inl k | inr k ↦ absurd (omega (arith, k .2)) ];
         },
         refl,
-        note-form 8 x (row s x .succ) 0 (omega arith) (omega arith) lx (b .1) (λ t. absurd t) (λ _. refl),
+        note-form LEAVEREQ x (row s x .succ) 0 (omega arith) (omega arith) lx (b .1) (λ t. absurd t) (λ _. refl),
       )
 
   -- one question more asked

@@ -53,13 +53,13 @@ hub-of (node hub) = hub
 -- (a) Both hubs are alone in a ring of their own, and each holds every number.
 pub two-holders : Claims present two [] (ring (alone 0 100) (alone 1 200) []) → ⊥
 unfolding holds responsible covers within dist
-two-holders claims = let e = claims .single 150 0 1 (omega arith) (held 0 refl) (held 1 refl) in omega (arith, e)
+two-holders claims = let e = claims .single 150 0 1 (omega arith) (holding 0 refl) (holding 1 refl) in omega (arith, e)
   where
     s : State
     s = record { rows = alone 0 100 ∷ alone 1 200 ∷ []; messages = []; asked = 1 }
 
-    held : (hub : ℕ) → holds s hub 150 ≡ true → holds (read (ring (alone 0 100) (alone 1 200) [])) hub 150 ≡ true
-    held hub e = subst (λ z. holds z hub 150 ≡ true) (sym (same (alone 0 100) (alone 1 200) [])) e
+    holding : (hub : ℕ) → holds s hub 150 ≡ true → holds (read (ring (alone 0 100) (alone 1 200) [])) hub 150 ≡ true
+    holding hub e = subst (λ z. holds z hub 150 ≡ true) (sym (same (alone 0 100) (alone 1 200) [])) e
 
 -- Hub 1 holds every number, and was never taken in.
 pub holder-no-member : Claims present two [] (ring (outside 100) (alone 1 200) []) → ⊥

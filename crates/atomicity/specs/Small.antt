@@ -4,7 +4,7 @@ use mathlib.Core.Logic.{_⊎_, inl, inr, _≢_}
 use mathlib.Core.Bool.{Bool, true, false}
 use mathlib.Core.List.{List, [], _∷_, _++_, map}
 use Prim.Native.Nat.{ℕ, _+_, _≤_, _<_}
-use native.Mathlib.Decide.{ℕ-discrete}
+use native.Mathlib.Decide.{decLe, ℕ-discrete}
 use native.Mathlib.Omega.{arith}
 use lib.Dec.{T, eqb, ltb→lt}
 use lib.ListN.{length, getD, drop, replicate}
@@ -16,6 +16,7 @@ use Rattle.protocol.specs.declared.Row.{Row}
 use Rattle.protocol.specs.declared.Message.{Message}
 use Rattle.protocol.specs.declared.Route.{Route}
 use Rattle.protocol.specs.declared.Route.the-variants.{Own, To}
+use Rattle.protocol.specs.Names.{INSIDE, LOOKUP}
 use Rattle.protocol.specs.Record.{round, form, mostNodes, recordSize, none, State, count, outside, rowWords, messageWords, unusedRowWords, unusedMessageWords, words}
 use Rattle.protocol.specs.WellFormed.{namesNode}
 use Rattle.protocol.specs.Fresh.{fresh}
@@ -35,49 +36,46 @@ use Rattle.atomicity.specs.Theorem.{Course, Keeps, Kept as Held, reached
 row-words : (n : ℕ) (h : Row) → n ≤ mostNodes → RowForm n h → h .identifier < round → All Word (rowWords h)
 row-words n h few r i = (
   i,
-  (omega (arith, r .state), (omega (arith, r .lock), (flag (r .flag), (pointers (ring-or-not), (pointers′ ring-or-not, (old (r .flag), tt)))))),
+  (omega (arith, r .state), (omega (arith, r .lock), (flag (r .flag), (pointers .0, (pointers .1, (old (r .flag), tt)))))),
 )
   where
-    ring-or-not : (h .state ≤ 1) ⊎ (2 ≤ h .state)
-    ring-or-not = elim (ℕ-discrete (h .state) 0) [ yes e ↦ inl (omega arith) | no e ↦ elim (ℕ-discrete (h .state) 1) [ yes f ↦ inl (omega arith) | no f ↦ inr (omega arith) ] ]
+    -- none, or a hub
+    pointers : (h .pred < round) × (h .succ < round)
+    pointers =
+        elim (decLe INSIDE (h .state)) [
+          | yes l ↦ (omega (arith, r .linked l .0), omega (arith, r .linked l .1))
+          | no l ↦ (omega (arith, r .unlinked (omega arith) .0), omega (arith, r .unlinked (omega arith) .1))
+        ]
 
-    pointers : (h .state ≤ 1) ⊎ (2 ≤ h .state) → h .pred < round
-    pointers (inl l) = omega (arith, r .unlinked l .0)
-    pointers (inr l) = omega (arith, r .linked l .0)
-
-    pointers′ : (h .state ≤ 1) ⊎ (2 ≤ h .state) → h .succ < round
-    pointers′ (inl l) = omega (arith, r .unlinked l .1)
-    pointers′ (inr l) = omega (arith, r .linked l .1)
-
-    flag : ((h .flag ≡ 0) × (h .oldpred ≡ none)) ⊎ ((h .flag ≡ 1) × (h .state ≡ 2) × (h .lock ≡ 1) × (h .oldpred < n)) → h .flag < round
+    flag : ((h .flag ≡ 0) × (h .oldpred ≡ none)) ⊎ ((h .flag ≡ 1) × (h .state ≡ INSIDE) × (h .lock ≡ 1) × (h .oldpred < n)) → h .flag < round
     flag (inl x) = omega (arith, x .0)
     flag (inr x) = omega (arith, x .0)
 
-    old : ((h .flag ≡ 0) × (h .oldpred ≡ none)) ⊎ ((h .flag ≡ 1) × (h .state ≡ 2) × (h .lock ≡ 1) × (h .oldpred < n)) → h .oldpred < round
+    old : ((h .flag ≡ 0) × (h .oldpred ≡ none)) ⊎ ((h .flag ≡ 1) × (h .state ≡ INSIDE) × (h .lock ≡ 1) × (h .oldpred < n)) → h .oldpred < round
     old (inl x) = omega (arith, x .1)
     old (inr x) = omega (arith, x .3)
 
-message-words : (n asked : ℕ) (m : Message) → n ≤ mostNodes → asked < round → MessageForm n asked m → (m .kind ≡ 1 → m .a < round) → All Word (messageWords m)
+message-words : (n asked : ℕ) (m : Message) → n ≤ mostNodes → asked < round → MessageForm n asked m → (m .kind ≡ LOOKUP → m .a < round) → All Word (messageWords m)
 message-words n asked m few l r p = (
   omega (arith, r .high),
-  (omega (arith, r .from), (omega (arith, r .to), (a (ℕ-discrete (m .kind) 1) (namesNode (m .kind)) (λ t. r .node t) (λ f. r .zero f), (b (ℕ-discrete (m .kind) 1), (hops (ℕ-discrete (m .kind) 1), tt))))),
+  (omega (arith, r .from), (omega (arith, r .to), (a (ℕ-discrete (m .kind) LOOKUP) (namesNode (m .kind)) (λ t. r .node t) (λ f. r .zero f), (b (ℕ-discrete (m .kind) LOOKUP), (hops (ℕ-discrete (m .kind) LOOKUP), tt))))),
 )
   where
-    a : Dec (m .kind ≡ 1) → (k : Bool) → (T k → m .kind ≢ 1 → m .a < n) → (¬ T k → m .kind ≢ 1 → m .a ≡ 0) → m .a < round
+    a : Dec (m .kind ≡ LOOKUP) → (k : Bool) → (T k → m .kind ≢ LOOKUP → m .a < n) → (¬ T k → m .kind ≢ LOOKUP → m .a ≡ 0) → m .a < round
     a (yes e) k f g = p e
     a (no e) true f g = omega (arith, f tt e)
     a (no e) false f g = omega (arith, g (λ t. t) e)
 
-    b : Dec (m .kind ≡ 1) → m .b < round
+    b : Dec (m .kind ≡ LOOKUP) → m .b < round
     b (yes e) = omega (arith, r .lookup e .0)
     b (no e) = omega (arith, r .plain e .0)
 
-    hops : Dec (m .kind ≡ 1) → m .hops < round
+    hops : Dec (m .kind ≡ LOOKUP) → m .hops < round
     hops (yes e) = omega (arith, r .lookup e .1)
     hops (no e) = omega (arith, r .plain e .1)
 
 state-words : (s : State) → Form s → s .asked < round → ((h : Row) → Mem h (s .rows) → h .identifier < round)
-    → ((m : Message) → Mem m (s .messages) → m .kind ≡ 1 → m .a < round) → All Word (words s)
+    → ((m : Message) → Mem m (s .messages) → m .kind ≡ LOOKUP → m .a < round) → All Word (words s)
 unfolding words
 state-words s f l names points =
     let after : List ℕ = replicate (unusedMessageWords (length (s .messages))) 0 in
@@ -100,11 +98,11 @@ module _ (id : ℕ → ℕ) (c : ℕ) (small : (h : ℕ) → id h < round) (s : 
       let p = place h (s .rows) (outside 0) k in
       omega (arith, small (p .0), G .holds .names (p .0), ap (λ z. z .identifier) (p .2))
 
-  points-small : (m : Message) → Mem m (s .messages) → m .kind ≡ 1 → m .a < round
+  points-small : (m : Message) → Mem m (s .messages) → m .kind ≡ LOOKUP → m .a < round
   points-small m k = go (G .ms) (λ x j. G .holds .numbers x j .point) (subst (Mem m) (G .same) k)
     where
-      go : (ms : List Msg) → ((x : Msg) → Mem x ms → erase x .kind ≡ 1 → erase x .a < round) → Mem m (map erase ms) → m .kind ≡ 1 → m .a < round
-      go (x ∷ ms) p (inl e) = subst (λ z. z .kind ≡ 1 → z .a < round) (sym e) (p x (inl refl))
+      go : (ms : List Msg) → ((x : Msg) → Mem x ms → erase x .kind ≡ LOOKUP → erase x .a < round) → Mem m (map erase ms) → m .kind ≡ LOOKUP → m .a < round
+      go (x ∷ ms) p (inl e) = subst (λ z. z .kind ≡ LOOKUP → z .a < round) (sym e) (p x (inl refl))
       go (x ∷ ms) p (inr j) = go ms (λ y i. p y (inr i)) j
       go [] p j = absurd j
 

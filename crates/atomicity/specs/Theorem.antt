@@ -18,7 +18,7 @@ use Rattle.protocol.specs.declared.Answer.{Answer}
 use Rattle.protocol.specs.declared.Answer.the-variants.{Quiet, Found}
 use Rattle.protocol.specs.declared.Outcome.{Outcome}
 use Rattle.protocol.specs.declared.Outcome.the-variants.{Refused, Answered}
-use Rattle.protocol.specs.Names.{INSIDE, WANTING-TO-LEAVE}
+use Rattle.protocol.specs.Names.{INSIDE, WANTING-TO-LEAVE, LOOKUP}
 use Rattle.protocol.specs.Record.{round, mostNodes, State, row, message, noMessage}
 use Rattle.protocol.specs.Fresh.{fresh}
 use Rattle.protocol.specs.Routing.{responsible, covers}
@@ -206,7 +206,7 @@ module _ (ids : List ℕ) (small : (h : ℕ) → getD ids h 0 < round) (inj : (a
     waiting-is [] = refl
     waiting-is (m ∷ ms) = omega (arith, one m, waiting-is ms)
       where
-        one : (m : Msg) → (if eqb (erase m .kind) 1 then 1 else 0) ≡ asks m
+        one : (m : Msg) → (if eqb (erase m .kind) LOOKUP then 1 else 0) ≡ asks m
         one (lookup x y v k h) = refl
         one (join x y a) = refl
         one (joinRetry x a) = refl

@@ -11,7 +11,7 @@ use Rattle.lists.specs.Choice.{tested}
 use Rattle.lists.specs.Members.{all-append}
 use Rattle.protocol.specs.declared.Answer.the-variants.{Quiet}
 use Rattle.protocol.specs.declared.Outcome.the-variants.{Answered}
-use Rattle.protocol.specs.Names.{OUTPUT-SHORT}
+use Rattle.protocol.specs.Names.{RECORD-SHORT, NOT-WELL-FORMED, IDENTIFIER-COUNT, IDENTIFIER-TWICE, OUTPUT-SHORT}
 use Rattle.protocol.specs.Record.{mostNodes, read}
 use Rattle.protocol.specs.WellFormed.{wellFormed}
 use Rattle.protocol.specs.Step.{Result, refused, accepted, step}
@@ -69,15 +69,15 @@ module _ (b : List ℕ) where
   step-back : (operation x y : ℕ) → Back (stepCall (wordsOf b) operation x y)
   unfolding stepCall onRecord
   step-back operation x y =
-      tested Back (long (wordsOf b)) _ _ (turned-back 1)
-      (λ l. tested Back (wellFormed (wordsOf b)) _ _ (turned-back 2) (λ f. written-back (step (read (wordsOf b)) operation x y)))
+      tested Back (long (wordsOf b)) _ _ (turned-back RECORD-SHORT)
+      (λ l. tested Back (wellFormed (wordsOf b)) _ _ (turned-back NOT-WELL-FORMED) (λ f. written-back (step (read (wordsOf b)) operation x y)))
 
   fresh-back : (ids : List ℕ) → Back (freshCall (wordsOf b) ids)
   unfolding freshCall
   fresh-back ids =
-      tested Back (long (wordsOf b)) _ _ (turned-back 1)
-      (λ l. tested Back (leb 1 (length ids) && leb (length ids) mostNodes) _ _ (turned-back 13)
-      (λ n. tested Back (distinct ids) _ _ (turned-back 14) (λ d. written-back (accepted Quiet _))))
+      tested Back (long (wordsOf b)) _ _ (turned-back RECORD-SHORT)
+      (λ l. tested Back (leb 1 (length ids) && leb (length ids) mostNodes) _ _ (turned-back IDENTIFIER-COUNT)
+      (λ n. tested Back (distinct ids) _ _ (turned-back IDENTIFIER-TWICE) (λ d. written-back (accepted Quiet _))))
 
 -- A record that was reached in a slice of 32-bit words; and bytes that carry one.
 abbrev Reach : List ℕ → List Event → List ℕ → Type 0

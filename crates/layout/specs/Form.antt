@@ -13,7 +13,7 @@ use Rattle.lists.specs.Members.{mem-at}
 use Rattle.lists.specs.Tests.{Says, says-and, says-or, says-if, says-so, says-le, says-lt, says-eq, says-as, says-every, Distinct, says-distinct, true-T}
 use Rattle.protocol.specs.declared.Row.{Row}
 use Rattle.protocol.specs.declared.Message.{Message}
-use Rattle.protocol.specs.Names.{INSIDE, JOINING, LEAVING, OUTSIDE}
+use Rattle.protocol.specs.Names.{INSIDE, JOINING, LEAVING, OUTSIDE, LOOKUP}
 use Rattle.protocol.specs.Record.{form, mostNodes, mostMessages, recordSize, unusedRowWords, unusedMessageWords, none, State, count, countIn, messagesIn, row, read, words, outside}
 use Rattle.protocol.specs.WellFormed.{pointersOk, lockOk, flagOk, rowOk, namesNode, aOk, bOk, hopsOk, messageOk, identifiers, formed, headerOk, unusedRows, unusedMessages, unusedOk, wellFormed}
 use Rattle.layout.specs.Words.{Tidy, read-words, words-read, count-read, messages-read, form-read, unused-rows-read, unused-messages-read, length-words, count-of-read, messages-of-read}
@@ -107,28 +107,28 @@ pub record MessageForm (n asked : ℕ) (m : Message) : Type 0 where
   pub high : m .kind < 15
   pub from : m .from < n
   pub to : m .to < n
-  pub node : T (namesNode (m .kind)) → m .kind ≢ 1 → m .a < n
-  pub zero : ¬ T (namesNode (m .kind)) → m .kind ≢ 1 → m .a ≡ 0
-  pub lookup : m .kind ≡ 1 → (m .b < asked) × (m .hops ≤ 65535)
-  pub plain : m .kind ≢ 1 → (m .b ≡ 0) × (m .hops ≡ 0)
+  pub node : T (namesNode (m .kind)) → m .kind ≢ LOOKUP → m .a < n
+  pub zero : ¬ T (namesNode (m .kind)) → m .kind ≢ LOOKUP → m .a ≡ 0
+  pub lookup : m .kind ≡ LOOKUP → (m .b < asked) × (m .hops ≤ 65535)
+  pub plain : m .kind ≢ LOOKUP → (m .b ≡ 0) × (m .hops ≡ 0)
 
 -- the tests of a message's fields, each with what it says
 abbrev FieldA : ℕ → Message → Type 0
-FieldA n m = (m .kind ≡ 1) ⊎ ((T (namesNode (m .kind)) → m .a < n) × (¬ T (namesNode (m .kind)) → m .a ≡ 0))
+FieldA n m = (m .kind ≡ LOOKUP) ⊎ ((T (namesNode (m .kind)) → m .a < n) × (¬ T (namesNode (m .kind)) → m .a ≡ 0))
 
 says-a : (n : ℕ) (m : Message) → Says (aOk n m) (FieldA n m)
 unfolding aOk
 says-a n m = says-or (says-eq (m .kind) 1) (says-if (says-so (namesNode (m .kind))) (says-lt (m .a) n) (says-eq (m .a) 0))
 
 abbrev FieldB : ℕ → Message → Type 0
-FieldB asked m = (m .kind ≡ 1 → m .b < asked) × (m .kind ≢ 1 → m .b ≡ 0)
+FieldB asked m = (m .kind ≡ LOOKUP → m .b < asked) × (m .kind ≢ LOOKUP → m .b ≡ 0)
 
 says-b : (asked : ℕ) (m : Message) → Says (bOk asked m) (FieldB asked m)
 unfolding bOk
 says-b asked m = says-if (says-eq (m .kind) 1) (says-lt (m .b) asked) (says-eq (m .b) 0)
 
 abbrev FieldHops : Message → Type 0
-FieldHops m = (m .kind ≡ 1 → m .hops ≤ 65535) × (m .kind ≢ 1 → m .hops ≡ 0)
+FieldHops m = (m .kind ≡ LOOKUP → m .hops ≤ 65535) × (m .kind ≢ LOOKUP → m .hops ≡ 0)
 
 says-hops : (m : Message) → Says (hopsOk m) (FieldHops m)
 unfolding hopsOk
@@ -151,11 +151,11 @@ says-message n asked m =
       plain = λ ne. (k .0 .1 .1 ne, k .1 .1 ne);
     })
     (λ r. (
-      (((((r .low, r .high), r .from), r .to), field-a r (ℕ-discrete (m .kind) 1)), ((λ e. r .lookup e .0), λ ne. r .plain ne .0)),
+      (((((r .low, r .high), r .from), r .to), field-a r (ℕ-discrete (m .kind) LOOKUP)), ((λ e. r .lookup e .0), λ ne. r .plain ne .0)),
       ((λ e. r .lookup e .1), λ ne. r .plain ne .1),
     ))
   where
-    field-a : MessageForm n asked m → Dec (m .kind ≡ 1) → FieldA n m
+    field-a : MessageForm n asked m → Dec (m .kind ≡ LOOKUP) → FieldA n m
     field-a r (yes e) = inl e
     field-a r (no ne) = inr ((λ t. r .node t ne), λ f. r .zero f ne)
 

@@ -24,6 +24,8 @@ pub struct Calls {
     pub word_step: StepCall,
     /// Where `ringrun` is, seen from the repository's folder.
     pub ringrun: &'static str,
+    /// Where `inspect` is, likewise. With a fault planted behind it, it is a command of the shell.
+    pub inspect: &'static str,
 }
 
 /// The engine itself.
@@ -33,6 +35,7 @@ pub const ENGINE: Calls = Calls {
     owner: engine::owner,
     word_step: engine_word_step,
     ringrun: "target/bin/ringrun",
+    inspect: "target/bin/inspect",
 };
 
 /// The engine's step on a record of words.

@@ -53,7 +53,7 @@ pub fn bytes_of(state: &State) -> Vec<u8> {
 const LIMITS: [u32; 14] = [0, 1, 2, 3, 4, 5, 14, 15, 254, 255, 256, 65535, 65536, u32::MAX];
 
 /// What a word is set to: the limits, what is next to the word, and what stands elsewhere.
-fn values(generator: &mut Generator, state: &State, word: u32) -> Vec<u32> {
+pub fn values(generator: &mut Generator, state: &State, word: u32) -> Vec<u32> {
     let (n, m, asked) = (state.n(), state.messages.len() as u32, state.asked);
     let another = state.row(generator.below(n)).identifier;
     let mut all = vec![n - 1, n, n + 1, m, m + 1, asked, asked.wrapping_sub(1), another];

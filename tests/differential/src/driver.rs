@@ -186,7 +186,8 @@ pub fn anything(generator: &mut Generator, state: &State) -> Command {
     Command::new(operation, x, y)
 }
 
-fn any_node(generator: &mut Generator, n: u32) -> u32 {
+/// Mostly one of n nodes, now and then a number that is none.
+pub fn any_node(generator: &mut Generator, n: u32) -> u32 {
     match generator.below(10) {
         0 => [n, n + 1, 63, 64, 255, 256, 1 << 31, u32::MAX][generator.below(8) as usize],
         _ => generator.below(n),

@@ -13,6 +13,7 @@ use ring_model::Answer;
 
 use crate::calls::{answer_of, put_word, word_at, Calls, ENGINE, RECORD_BYTES};
 use crate::engine;
+use crate::filters::{FILTERS, NO_FAULT};
 use crate::parts::PARTS;
 use crate::reached::Reached;
 
@@ -20,6 +21,8 @@ use crate::reached::Reached;
 const SELDOM: u64 = 3000;
 /// Batches that are tried until a fault is seen.
 const BATCHES: u64 = 400;
+/// Batches that are tried where there is no fault.
+const UNFAULTED: u64 = 5;
 
 thread_local! {
     static CALLS: Cell<u64> = const { Cell::new(0) };
@@ -59,23 +62,21 @@ const STEPS: [(&str, &str, Step); 10] = [
 
 /// All planted faults.
 pub fn faults() -> Vec<Fault> {
-    let steps = STEPS.iter().map(|&(name, part, step)| Fault {
-        name,
-        part,
-        calls: Calls { step, ..ENGINE },
-    });
-    steps.chain(other_faults()).collect()
+    let fault = |name, part, calls| Fault { name, part, calls };
+    let steps = STEPS.iter().map(|&(name, part, step)| fault(name, part, Calls { step, ..ENGINE }));
+    let filtered = |&(name, inspect)| fault(name, "inspect", Calls { inspect, ..ENGINE });
+    steps.chain(other_faults()).chain(FILTERS.iter().map(filtered)).collect()
 }
 
-/// Wrong calls other than steps.
-fn other_faults() -> [Fault; 6] {
+/// Wrong calls other than steps, and programs that are no ring at all.
+fn other_faults() -> [Fault; 8] {
     let fault = |name, part, calls| Fault { name, part, calls };
     let witness = Calls { word_step: refuses_words, ..ENGINE };
     let owner = Calls { owner: highest_holder, ..ENGINE };
     let repeated = Calls { fresh: repeated_pass, ..ENGINE };
     let left_over = Calls { fresh: reads_left_over, ..ENGINE };
-    let echo = Calls { ringrun: "cat", ..ENGINE };
-    let silent = Calls { ringrun: "true", ..ENGINE };
+    let echo = Calls { ringrun: "cat", inspect: "cat", ..ENGINE };
+    let silent = Calls { ringrun: "true", inspect: "true", ..ENGINE };
     [
         fault("a delivery of the witness is refused, seldom", "witnessed", witness),
         fault("the highest holder", "unreachable", owner),
@@ -83,18 +84,32 @@ fn other_faults() -> [Fault; 6] {
         fault("left-over bytes are read", "founding", left_over),
         fault("a program that prints its input", "ringrun", echo),
         fault("a program that prints nothing", "ringrun", silent),
+        fault("a program that prints its input, for inspect", "inspect", echo),
+        fault("a program that prints nothing, for inspect", "inspect", silent),
     ]
 }
 
 impl Fault {
     /// Whether the part sees it.
     pub fn is_seen(&self, seed: u64) -> bool {
+        self.is_seen_within(seed, BATCHES)
+    }
+
+    fn is_seen_within(&self, seed: u64, batches: u64) -> bool {
         let mut parts = PARTS.iter().filter(|part| part.name == self.part);
         parts.any(|part| {
-            (0..BATCHES)
+            (0..batches)
                 .any(|number| part.run(seed, number, self.calls, &mut Reached::default()).is_err())
         })
     }
+}
+
+/// That `inspect` passes behind a filter that changes nothing: it is the faults that are seen
+/// there, not the filter.
+pub fn filter_passes(seed: u64) -> (&'static str, bool) {
+    let calls = Calls { inspect: NO_FAULT, ..ENGINE };
+    let name = "a filter that changes nothing is not found wrong";
+    (name, !Fault { name, part: "inspect", calls }.is_seen_within(seed, UNFAULTED))
 }
 
 fn answer_differs(words: &mut [u8], operation: u32, x: u32, y: u32, out: &mut [u8]) -> u32 {

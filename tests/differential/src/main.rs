@@ -1,6 +1,6 @@
-//! The engine beside the model of document 01: the C calls on lent bytes, and `ringrun`, on random
-//! and on hostile input. Every returned number, every byte of record and output, and the bytes
-//! around them are compared; runs from fresh are held to demand 3 as well.
+//! The engine beside the model of document 01: the C calls on lent bytes, `ringrun` and `inspect`,
+//! on random and on hostile input. Every returned number, every byte of record and output, and the
+//! bytes around them are compared; runs from fresh are held to demand 3 as well.
 //!
 //! Usage, from the repository's folder: `differential SEED SECONDS`, or `differential SEED 0 PART
 //! BATCH` to run one batch again.
@@ -13,10 +13,15 @@ mod claims;
 mod damaged;
 mod driver;
 mod engine;
+mod expected;
 mod faults;
+mod filters;
 mod identifiers;
+mod inspected;
+mod inspections;
 mod lengths;
 mod lent;
+mod odd_lines;
 mod pair;
 mod parts;
 mod program;
@@ -27,6 +32,7 @@ mod schedule;
 mod scripts;
 mod states;
 mod trail;
+mod trouble;
 mod unreachable;
 mod wrong_claims;
 
@@ -39,8 +45,9 @@ use crate::parts::PARTS;
 use crate::reached::Reached;
 use crate::schedule::{run_all, Report};
 
-/// From so many calls on, everything must have been reached.
+/// From so many calls on, and so many lines of `inspect`, everything must have been reached.
 const ENOUGH: u64 = 1_000_000;
+const ENOUGH_LINES: u64 = 150_000;
 /// A run of so many seconds, as the gate's is, must make so many calls. A shorter one may make
 /// fewer, and then says that it skips the test of what was reached.
 const LONG: u64 = 60;
@@ -78,6 +85,7 @@ fn main() -> ExitCode {
 fn planted(seed: u64, score: &mut Score) {
     let mut cases = wrong_claims::cases();
     cases.extend(faults::faults().iter().map(|fault| (fault.name, fault.is_seen(seed))));
+    cases.push(faults::filter_passes(seed));
     println!("{} planted faults", cases.len());
     for (name, seen) in cases {
         if !seen {
@@ -112,18 +120,26 @@ fn all(seed: u64, seconds: u64) -> ExitCode {
         sum.lines
     );
     print!("reached:\n{}", sum.table());
-    if sum.calls < ENOUGH && seconds < LONG {
-        println!("skipped: whether all was reached, since fewer than {ENOUGH} calls were made");
-    } else {
-        score.note(reached_all(&sum));
+    match too_few(&sum) {
+        Some(what) if seconds < LONG => println!("skipped: whether all was reached, since {what}"),
+        _ => score.note(reached_all(&sum)),
     }
     score.end()
 }
 
+/// What there was too little of to have reached all.
+fn too_few(sum: &Reached) -> Option<String> {
+    if sum.calls < ENOUGH {
+        return Some(format!("fewer than {ENOUGH} calls were made"));
+    }
+    let few = sum.inspected.lines < ENOUGH_LINES;
+    few.then(|| format!("inspect answered fewer than {ENOUGH_LINES} lines"))
+}
+
 /// Whether there were enough calls, and nothing was left out by all of them.
 fn reached_all(sum: &Reached) -> bool {
-    if sum.calls < ENOUGH {
-        println!("FAILED: fewer than {ENOUGH} calls were made");
+    if let Some(what) = too_few(sum) {
+        println!("FAILED: {what}");
         return false;
     }
     let missing = sum.missing();

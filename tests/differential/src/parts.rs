@@ -23,14 +23,15 @@ pub struct Part {
 }
 
 /// All parts.
-pub const PARTS: [Part; 7] = [
-    Part { name: "runs", share: 46, batch: runs::batch },
+pub const PARTS: [Part; 8] = [
+    Part { name: "runs", share: 40, batch: runs::batch },
     Part { name: "witnessed", share: 8, batch: runs::witnessed_batch },
     Part { name: "unreachable", share: 16, batch: unreachable::batch },
     Part { name: "damaged", share: 14, batch: damaged::batch },
     Part { name: "lengths", share: 3, batch: lengths::batch },
     Part { name: "founding", share: 3, batch: lengths::founding_batch },
     Part { name: "ringrun", share: 10, batch: program::batch },
+    Part { name: "inspect", share: 6, batch: program::inspect_batch },
 ];
 
 impl Part {

@@ -5,11 +5,13 @@ use ring_model::kinds::{as_required, LEAVEDONE};
 use ring_model::record::{Message, State, MAX_HOPS, MAX_MESSAGES};
 use ring_model::{Answer, Command};
 
+use crate::inspected::Inspected;
+
 /// Refusal numbers of the C calls: 1 to 15 and 17. 16 is the roll call's, which C has not.
 const REFUSALS: [usize; 16] = [1, 2, 3, 4, 5, 6, 7, 8, 9, 10, 11, 12, 13, 14, 15, 17];
 
 /// Counts by their numbers; a count of its own has no number.
-type Cells = Vec<(Option<usize>, u64)>;
+pub type Cells = Vec<(Option<usize>, u64)>;
 
 /// Counts of what was reached.
 #[derive(Clone, Default)]
@@ -18,8 +20,10 @@ pub struct Reached {
     pub calls: u64,
     /// Deliveries tried on copies, for demand 3's last claim.
     pub tried: u64,
-    /// Frames answered by `ringrun`.
+    /// Lines answered by `ringrun` and by `inspect`.
     pub lines: u64,
+    /// What `inspect` said.
+    pub inspected: Inspected,
     /// The most nodes that were in the ledger at once.
     pub most_members: u64,
     refusals: [u64; 18],
@@ -86,6 +90,7 @@ impl Reached {
         self.calls += other.calls;
         self.tried += other.tried;
         self.lines += other.lines;
+        self.inspected.add(&other.inspected);
         self.most_members = self.most_members.max(other.most_members);
         add_all(&mut self.refusals, &other.refusals);
         add_all(&mut self.answers, &other.answers);
@@ -109,7 +114,7 @@ impl Reached {
         let one = |count: u64| vec![(None, count)];
         let refusals = REFUSALS.iter().map(|&number| (Some(number), self.refusals[number]));
         let least_tried = self.receivers[1..].iter().flatten().copied().min();
-        vec![
+        let calls = [
             ("refusals by number", refusals.collect()),
             ("answers by kind", from(0, &self.answers)),
             ("messages delivered, by kind", from(1, &self.delivered)),
@@ -120,7 +125,8 @@ impl Reached {
             ("steps at 256 messages", one(self.full)),
             ("joins of a node whose LEAVEDONE waits", one(self.joined_again)),
             ("LOOKUPs delivered with hops at 65535", one(self.hops_stay)),
-        ]
+        ];
+        calls.into_iter().chain(self.inspected.rows()).collect()
     }
 
     /// The table as text.
@@ -148,7 +154,8 @@ impl Reached {
     }
 }
 
-fn add_all(counts: &mut [u64], others: &[u64]) {
+/// Adds counts one by one.
+pub fn add_all(counts: &mut [u64], others: &[u64]) {
     for (count, other) in counts.iter_mut().zip(others) {
         *count += other;
     }

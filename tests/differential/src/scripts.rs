@@ -25,14 +25,18 @@ pub fn script(generator: &mut Generator) -> Vec<u8> {
     for _ in 0..1 + generator.below(4) {
         ring_lines(generator, &mut text);
     }
-    // 'A line ends with LF, which the last may lack.'
+    end(generator, &mut text);
+    text
+}
+
+/// 'A line ends with LF, which the last may lack.'
+pub fn end(generator: &mut Generator, text: &mut Vec<u8>) {
     if generator.chance(50) {
         text.pop();
     }
     if generator.chance(20) {
         text.extend_from_slice(&hostile(generator));
     }
-    text
 }
 
 /// A founding and commands on its ring, hostile lines among them.
@@ -56,28 +60,34 @@ fn ring_lines(generator: &mut Generator, text: &mut Vec<u8>) {
     }
 }
 
-fn founding(names: &[u32]) -> String {
+/// The frame that founds a ring with these identifiers.
+pub fn founding(names: &[u32]) -> String {
     let digits: String = names.iter().map(|name| format!("{name:08X}")).collect();
     format!("F0{digits}")
 }
 
-/// The command as a frame. An operation of more than two digits makes a line that is too long.
 fn push_command(text: &mut Vec<u8>, command: Command) {
-    let Command { operation, x, y } = command;
-    push_line(text, format!("{operation:02X}{x:08X}{y:08X}").as_bytes());
+    push_line(text, frame(command).as_bytes());
 }
 
-fn push_line(text: &mut Vec<u8>, line: &[u8]) {
+/// The command as a frame. An operation of more than two digits makes a line that is too long.
+pub fn frame(command: Command) -> String {
+    let Command { operation, x, y } = command;
+    format!("{operation:02X}{x:08X}{y:08X}")
+}
+
+/// The line, and its LF.
+pub fn push_line(text: &mut Vec<u8>, line: &[u8]) {
     text.extend_from_slice(line);
     text.push(b'\n');
 }
 
 /// Bytes that are no digits; many stand next to the digits in the table of characters.
-const WRONG: &[u8] = b"af\r\0 G/:@`\x80\xB0\xFF\tx-";
+pub const WRONG: &[u8] = b"af\r\0 G/:@`\x80\xB0\xFF\tx-";
 
 /// A line that mostly does not read. Where it does, the script may know less of the ring than
 /// before; engine and model still have to agree.
-fn hostile(generator: &mut Generator) -> Vec<u8> {
+pub fn hostile(generator: &mut Generator) -> Vec<u8> {
     let mut line = match generator.below(6) {
         0 => random_line(generator),
         1 => return Vec::new(),
@@ -109,7 +119,8 @@ fn edge_line(generator: &mut Generator) -> Vec<u8> {
     line
 }
 
-fn pick(generator: &mut Generator, bytes: &[u8]) -> u8 {
+/// One of these bytes.
+pub fn pick(generator: &mut Generator, bytes: &[u8]) -> u8 {
     bytes[generator.below(bytes.len() as u32) as usize]
 }
 

@@ -2,7 +2,7 @@
 //! no run reaches.
 
 use ring_model::generator::Generator;
-use ring_model::record::{State, RECORD_WORDS};
+use ring_model::record::{State, INSIDE, MAX_NODES, RECORD_WORDS};
 
 use crate::identifiers::{identifiers, ring_size};
 
@@ -11,6 +11,22 @@ pub fn founded(names: &[u32]) -> State {
     let mut words = vec![0; RECORD_WORDS];
     let state = ring_model::fresh(&mut words, names).and_then(|()| State::read(&words));
     state.expect("different identifiers found a ring")
+}
+
+/// A ring at rest with all of its nodes inside, of any size, often the largest.
+pub fn settled(generator: &mut Generator) -> State {
+    let n = if generator.chance(30) { MAX_NODES } else { ring_size(generator) };
+    let names = identifiers(generator, n);
+    let mut clockwise: Vec<u32> = (0..n as u32).collect();
+    clockwise.sort_by_key(|&node| names[node as usize]);
+    let mut state = founded(&names);
+    for (place, &node) in clockwise.iter().enumerate() {
+        let row = state.row_mut(node);
+        row.state = INSIDE;
+        row.pred = clockwise[(place + n - 1) % n];
+        row.succ = clockwise[(place + 1) % n];
+    }
+    state
 }
 
 /// Any well-formed state, of a ring of any size.
