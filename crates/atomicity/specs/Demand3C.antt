@@ -1,5 +1,5 @@
 -- DEMAND 3 of the C calls, stated: lists of `ring_step` on bytes that an accepted `ring_fresh` wrote, with outputs of any length among them.
--- 'A C call that gets 17 makes no step.' (A Byte is a number below 256.) Its proof is `c-demand-3` in TheoremC.antt.
+-- Where the output is too short, which is 17, no step is made. (A Byte is a number below 256.) Its proof is `c-demand-3` in TheoremC.antt.
 use mathlib.Core.Path.{_≡_}
 use mathlib.Core.List.{List, [], _∷_, _++_}
 use Prim.Native.Nat.{ℕ}

@@ -2,7 +2,7 @@
 -- (src/: states, kinds, answer_kinds, refusals).
 use Prim.Native.Nat.{ℕ}
 
--- 'States: 0 outside, 1 joining, 2 inside, 3 wanting to leave, 4 leaving.'
+-- The states of a node.
 abbrev pub OUTSIDE : ℕ
 OUTSIDE = 0
 
@@ -61,7 +61,7 @@ STOPFORWARD = 13
 abbrev pub LEAVEDONE : ℕ
 LEAVEDONE = 14
 
--- 'Kinds: 0 quiet, 1 found .., 7 left'
+-- The kinds of an answer.
 abbrev pub QUIET : ℕ
 QUIET = 0
 

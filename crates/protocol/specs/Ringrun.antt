@@ -8,8 +8,8 @@ use Rattle.protocol.specs.declared.Line.{Line}
 use Rattle.protocol.specs.Record.{recordSize}
 use Rattle.protocol.specs.Frames.{lineCall}
 
--- 'frames .., one a line': the lines of an input, the first of which has begun with the bytes given. 'A line ends with LF', byte 10, 'which
--- the last may lack': at the end of the input what has begun is the last line, and where nothing has begun there is none.
+-- The lines of an input, the first of which has begun with the bytes given. LF, byte 10, ends a line; the end of the input ends one that has
+-- begun, and where nothing has begun there is none.
 unfoldable pub linesOf : List ℕ → List ℕ → List (List ℕ)
 linesOf begun [] = if eqb (length begun) 0 then [] else begun ∷ []
 linesOf begun (b ∷ rest) = if eqb b 10 then begun ∷ linesOf [] rest else linesOf (begun ++ (b ∷ [])) rest
@@ -17,12 +17,12 @@ linesOf begun (b ∷ rest) = if eqb b 10 then begun ∷ linesOf [] rest else lin
 unfoldable pub textOf : Line → List ℕ
 textOf l = take (l .count) (l .bytes)
 
--- 'prints one line each', each on the slice as the line before it left it.
+-- One line is printed for each, made on the slice as the line before it left it.
 unfoldable pub answers : List ℕ → List (List ℕ) → List ℕ
 answers w [] = []
 answers w (l ∷ lines) = textOf (lineCall w l .printed) ++ answers (lineCall w l .slice) lines
 
--- 'Before any founding the record is all 0.'
+-- All words are 0 until a ring is founded.
 unfoldable pub ringrun : List ℕ → List ℕ
 ringrun input = answers (replicate recordSize 0) (linesOf [] input)
 

@@ -69,7 +69,7 @@ fn goes_on(t: Turn, out: &[u8]) -> bool
     }
 }
 
-// From an empty line on 'the record is all 0'. A proved loop has to end, and nothing says that the input does. So the loop counts its turns
+// It begins with no line and a record of zeros. A proved loop has to end, and nothing says that the input does. So the loop counts its turns
 // down, from a number that no run uses up.
 fn run(w: &mut [u32], line: &mut [u8], out: &mut [u8], input: &mut [u8])
     requires { ⌜ (now w ≡ replicate recordSize 0) × (length (now line) ≡ 515) × (25 * length (now input) ≤ length (now out)) × (25 ≤ length (now out)) ⌝ }
@@ -86,7 +86,7 @@ fn run(w: &mut [u32], line: &mut [u8], out: &mut [u8], input: &mut [u8])
     }
 }
 
-// 'Before any founding the record is all 0.'
+// All words are 0 until a ring is founded.
 fn unfounded() -> [u32; RECORD_WORDS]
     ensures { λ r. ⌜ r ≡ replicate recordSize 0 ⌝ }
 {

@@ -32,7 +32,7 @@ unfolding fed
 fed-pieces s [] q = refl
 fed-pieces s (b ∷ p) q = fed-pieces (byteFed s b) p q
 
--- 'LF, which the last may lack': the end of the input does to a line that has begun what LF does.
+-- The end of the input does to a line that has begun what LF does.
 pub last-lf : (s : Standing) (input : List ℕ) → ¬ (length (fed s input .begun) ≡ 0) → ended (fed s input) ≡ fed s (input ++ (10 ∷ []))
 unfolding fed byteFed ended if_then_else_
 last-lf s input h = rw (fed-pieces s input (10 ∷ []), ne-eqb (length (fed s input .begun)) 0 h)

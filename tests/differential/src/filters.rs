@@ -1,5 +1,5 @@
-//! Faults planted behind `inspect`: what it prints goes through sed, which makes it wrong. A line is
-//! passed on at once (-u), since a script may wait for it.
+//! Faults planted behind `inspect`: what it prints goes through sed, which makes it wrong. Each
+//! line is passed on at once (-u), since a script may wait for it.
 
 /// `inspect` behind a script of sed.
 macro_rules! filtered {
