@@ -2,15 +2,15 @@
 use crate::bounds::least;
 use crate::inquiries::Inquiry;
 use crate::inquiries::read_inquiry;
-use crate::show;
-use crate::text::field;
-use crate::text::say;
 use crate::waiting::waiting;
 use frames::decode;
 use frames::fresh_ring;
 use protocol::Frame;
 use protocol::Tally;
 use protocol::answer_kinds;
+use wording::UNWRITTEN;
+use wording::field;
+use wording::say;
 
 // What is kept beside the words: the tally, and how many of the words are lent to a call.
 pub struct Session {
@@ -35,13 +35,13 @@ fn step(w: &mut [u32], operation: u32, x: u32, y: u32, s: Session, out: &mut [u8
     };
     Answered {
         session,
-        end: show::outcome(out, 0, outcome),
+        end: wording::outcome(out, 0, outcome),
     }
 }
 
 fn roll_into(w: &[u32], hub: u32, hubs: &mut [u32], out: &mut [u8]) -> usize {
     let r = ring::roll_call(w, hub, hubs);
-    show::roll(out, 0, hub, r, hubs)
+    wording::roll(out, 0, hub, r, hubs)
 }
 
 // The places of the output that are not asked for are not lent.
@@ -51,20 +51,20 @@ fn roll_places(w: &[u32], hub: u32, places: usize, hubs: &mut [u32], out: &mut [
 }
 
 fn roll(w: &[u32], hub: u32, places: usize, out: &mut [u8]) -> usize {
-    let mut hubs = [show::UNWRITTEN; 64];
+    let mut hubs = [UNWRITTEN; 64];
     roll_places(w, hub, places, &mut hubs, out)
 }
 
 fn told(w: &[u32], q: Inquiry, t: Tally, out: &mut [u8]) -> usize {
     match q {
-        Inquiry::Row(hub) => show::row(out, 0, hub, ring::hub_row(w, hub)),
+        Inquiry::Row(hub) => wording::row(out, 0, hub, ring::hub_row(w, hub)),
         Inquiry::Roll(hub, places) => roll(w, hub, places, out),
-        Inquiry::Owner(key) => show::owner(out, 0, key, ring::owner(w, key)),
+        Inquiry::Owner(key) => wording::owner(out, 0, key, ring::owner(w, key)),
         Inquiry::Waiting => waiting(out, w),
-        Inquiry::Counts => show::counts(out, 0, t),
+        Inquiry::Counts => wording::counts(out, 0, t),
         Inquiry::Lend(n) => field(out, 0, b"words lent: ", n as u64),
-        Inquiry::Word(place, v) => show::written(out, 0, b"word ", place, v as u64),
-        Inquiry::Count(place, v) => show::written(out, 0, b"count ", place, v),
+        Inquiry::Word(place, v) => wording::written(out, 0, b"word ", place, v as u64),
+        Inquiry::Count(place, v) => wording::written(out, 0, b"count ", place, v),
         Inquiry::Unreadable => say(out, 0, b"does not read"),
     }
 }
@@ -136,7 +136,7 @@ pub fn answer(w: &mut [u32], line: &[u8], s: Session, out: &mut [u8]) -> Answere
         let r = fresh_ring(&mut w[..n], line, count);
         return Answered {
             session: s,
-            end: show::outcome(out, 0, r),
+            end: wording::outcome(out, 0, r),
         };
     }
     if let Frame::Command { operation, x, y } = frame {

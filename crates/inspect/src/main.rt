@@ -3,11 +3,8 @@
 mod bounds;
 mod calls;
 mod inquiries;
-mod names;
 mod numerals;
-mod show;
 mod taking;
-mod text;
 mod waiting;
 
 use calls::Session;

@@ -2,9 +2,9 @@
 use crate::bounds::least;
 use crate::calls::Session;
 use crate::calls::answer;
-use crate::text::put;
 use console::gather;
 use console::send;
+use wording::put;
 ghost use mathlib.Core.Path.{_≡_};
 ghost use Prim.Native.Nat.{_≤_, _<_};
 ghost use lib.ListN.{length};

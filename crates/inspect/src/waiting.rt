@@ -1,9 +1,5 @@
 // The waiting messages, which no public call hands out: they are read where the record is well formed.
 use crate::bounds::least;
-use crate::names::refused;
-use crate::show::message;
-use crate::text::field;
-use crate::text::say;
 use protocol::form::MESSAGE_WORDS;
 use protocol::form::MESSAGES_AT;
 use protocol::form::RECORD_WORDS;
@@ -11,6 +7,10 @@ use protocol::kinds;
 use protocol::refusals;
 use record::message_at;
 use wellformed::well_formed;
+use wording::field;
+use wording::message;
+use wording::refused;
+use wording::say;
 ghost use Prim.Native.Nat.{_≤_};
 
 // The words of m messages. A record that is well formed has them all, so that nothing is cut.

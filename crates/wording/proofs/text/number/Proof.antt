@@ -2,8 +2,8 @@
 use borrow.Author.Needs.{needs}
 use mathlib.Core.Path.{_≡_}
 use lib.ListN.{length}
-use Rattle.inspect.proofs.text.number.Statement.{statement}
-use Rattle.inspect.proofs.text.number.Tie as tie
+use Rattle.wording.proofs.text.number.Statement.{statement}
+use Rattle.wording.proofs.text.number.Tie as tie
 
 abbrev Inv-loop : tie.InvT-loop
 Inv-loop out₀ at n end₀ power₀ out end power = length out ≡ length out₀

@@ -3,8 +3,8 @@ use borrow.Author.Needs.{needs}
 use mathlib.Core.Path.{_≡_}
 use Prim.Native.Nat.{_≤_, _-_}
 use lib.ListN.{length}
-use Rattle.inspect.proofs.names.name.Statement.{statement}
-use Rattle.inspect.proofs.names.name.Tie as tie
+use Rattle.wording.proofs.names.name.Statement.{statement}
+use Rattle.wording.proofs.names.name.Tie as tie
 
 abbrev Inv-loop : tie.InvT-loop
 Inv-loop out₀ at names k end₀ j₀ i₀ out end j i = (i ≤ length names) × (length out ≡ length out₀)
