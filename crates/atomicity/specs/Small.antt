@@ -134,7 +134,7 @@ on-map f (accepted a s) l = f l
 
 few-asked : (s : State) (operation x y : ℕ) → s .asked < round → On (λ t. s .asked + question operation < round) (step.step s operation x y)
 unfolding step.step if_then_else_
-few-asked s operation x y l = go (eqb operation 0) _ _ (on-map (λ k. k) (step.ask s x y) (ask-room s x y))
+few-asked s operation x y l = go (eqb operation 0) _ _ (ask-room s x y)
   where
     go : (b : Bool) (r t : Result) → On (λ z. s .asked < 4294967295) r → On (λ z. s .asked + (if b then 1 else 0) < round) (if b then r else t)
     go true r t k = on-map (λ j. omega arith) r k

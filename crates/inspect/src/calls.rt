@@ -1,4 +1,5 @@
 // One line: the call that it makes, what it changes, and its answer.
+use crate::bounds::MOST_PLACES;
 use crate::bounds::least;
 use crate::inquiries::Inquiry;
 use crate::inquiries::read_inquiry;
@@ -51,7 +52,7 @@ fn roll_places(w: &[u32], hub: u32, places: usize, hubs: &mut [u32], out: &mut [
 }
 
 fn roll(w: &[u32], hub: u32, places: usize, out: &mut [u8]) -> usize {
-    let mut hubs = [UNWRITTEN; 64];
+    let mut hubs = [UNWRITTEN; MOST_PLACES];
     roll_places(w, hub, places, &mut hubs, out)
 }
 

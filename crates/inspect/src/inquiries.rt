@@ -1,4 +1,7 @@
 // What a line asks for that is no frame (docs/INSPECT.md): a word, and numbers behind it.
+use crate::bounds::KEPT_WORDS;
+use crate::bounds::LAST_COUNT;
+use crate::bounds::MOST_PLACES;
 use crate::numerals::Numeral;
 use crate::numerals::number_at;
 use lists::both;
@@ -96,7 +99,7 @@ fn owner(line: &[u8]) -> Inquiry {
 }
 
 fn lend(line: &[u8]) -> Inquiry {
-    let n = one(line, 4, 1990);
+    let n = one(line, 4, KEPT_WORDS as u64);
     if n.are {
         return Inquiry::Lend(n.first as usize);
     }
@@ -104,7 +107,7 @@ fn lend(line: &[u8]) -> Inquiry {
 }
 
 fn roll(line: &[u8]) -> Inquiry {
-    let n = two(line, 4, 4294967295, 64);
+    let n = two(line, 4, 4294967295, MOST_PLACES as u64);
     if n.are {
         return Inquiry::Roll(word_of(n.first), n.second as usize);
     }
@@ -112,7 +115,7 @@ fn roll(line: &[u8]) -> Inquiry {
 }
 
 fn word(line: &[u8]) -> Inquiry {
-    let n = two(line, 4, 1989, 4294967295);
+    let n = two(line, 4, (KEPT_WORDS - 1) as u64, 4294967295);
     if n.are {
         return Inquiry::Word(n.first as usize, word_of(n.second));
     }
@@ -120,7 +123,7 @@ fn word(line: &[u8]) -> Inquiry {
 }
 
 fn count(line: &[u8]) -> Inquiry {
-    let n = two(line, 5, 8, 18446744073709551615);
+    let n = two(line, 5, LAST_COUNT, 18446744073709551615);
     if n.are {
         return Inquiry::Count(n.first as usize, n.second);
     }

@@ -7,6 +7,7 @@ mod numerals;
 mod taking;
 mod waiting;
 
+use bounds::KEPT_WORDS;
 use calls::Session;
 use console::Arrival;
 use console::drop_line;
@@ -78,9 +79,9 @@ fn begun() -> Turn {
     }
 }
 
-// Two words more than a record has; one byte more than a frame can have; more bytes than the longest answer, that of 256 waiting questions.
+// One byte more than a frame can have; more bytes than the longest answer, that of 256 waiting questions.
 fn main() {
-    let mut record = [0u32; 1990];
+    let mut record = [0u32; KEPT_WORDS];
     let mut line = [0u8; 515];
     let mut out = [0u8; 32768];
     let mut input = [0u8; 8192];

@@ -1,4 +1,4 @@
-// What a call gave, in words (docs/INSPECT.md). Each function puts its text behind the first `at` bytes of the block.
+// What a call gave (docs/INSPECT.md, 'Answers').
 use crate::names::answer_kind;
 use crate::names::kind;
 use crate::names::pointer;
@@ -16,6 +16,7 @@ use protocol::Roll;
 use protocol::Row;
 use protocol::Tally;
 use protocol::answer_kinds;
+use protocol::form::ROW_WORDS;
 use protocol::kinds;
 
 // A roll's output is full of this number before the call, which is no hub: where it still stands nothing was written.
@@ -80,7 +81,7 @@ fn fields_of_row(out: &mut [u8], at: usize, h: Row) -> usize {
 pub fn row(out: &mut [u8], at: usize, hub: u32, part: &[u32]) -> usize {
     let begun = field(out, at, b"row ", hub as u64);
     let colon = say(out, begun, b": ");
-    if part.len() < 7 {
+    if part.len() < ROW_WORDS {
         return say(out, colon, b"none");
     }
     let h = Row {

@@ -1,5 +1,4 @@
-// Text in a block: each function puts some behind the first `at` bytes, and answers how many there are then. What finds no room is dropped;
-// the block has room for the longest answer.
+// Text in a block. What finds no room is dropped; whoever lends the block gives it room for the longest answer.
 ghost use Prim.Native.Nat.{_<_};
 
 pub fn put(out: &mut [u8], at: usize, b: u8) -> usize {
