@@ -1,23 +1,14 @@
--- Document 01's first and last line, and the readings of the frame's edge cases, computed. Assumes nothing.
+-- The readings of the frame's edge cases, and how a refusal prints, computed. (Document 01's eight lines are a probe: atomicity/specs/Probes.antt.)
+-- Assumes nothing.
 use mathlib.Core.Path.{_≡_, refl}
 use mathlib.Core.List.{List, [], _∷_, _++_}
 use Prim.Native.Nat.{ℕ}
 use lib.ListN.{replicate}
-use Rattle.lists.specs.Basics.{if_then_else_, require, every, table}
-use Rattle.protocol.specs.declared.Answer.the-variants.{Found}
-use Rattle.protocol.specs.declared.Outcome.the-variants.{Refused, Answered}
+use Rattle.lists.specs.Basics.{if_then_else_, require, every}
+use Rattle.protocol.specs.declared.Outcome.the-variants.{Refused}
 use Rattle.protocol.specs.declared.Frame.the-variants.{Founding, Command, Unreadable}
 use Rattle.protocol.specs.Names.{IDENTIFIER-COUNT, UNREADABLE}
-use Rattle.protocol.specs.Answers.{answerWords}
-use Rattle.protocol.specs.Frames.{isDigit, digitValue, read2, read4, read8, founding, command, frame, identifierAt, identifiers, digitOf, print2, print4, print8, refusalText, fieldsText, outcomeText}
-
--- F0, then 00000064 and 000000C8
-unfoldable pub foundingFrame : List ℕ
-foundingFrame = 70 ∷ 48 ∷ (replicate 6 48 ++ (54 ∷ 52 ∷ [])) ++ (replicate 6 48 ++ (67 ∷ 56 ∷ []))
-
-pub first-line : (frame foundingFrame ≡ Founding 2) × (identifiers foundingFrame 2 ≡ 100 ∷ 200 ∷ [])
-unfolding foundingFrame isDigit digitValue read2 read4 read8 founding command frame identifierAt identifiers if_then_else_ require every table
-first-line = (refl, refl)
+use Rattle.protocol.specs.Frames.{isDigit, digitValue, read2, read4, read8, founding, command, frame, digitOf, print2, refusalText, outcomeText}
 
 -- 00, 00000000, 00000096
 unfoldable pub askFrame : List ℕ
@@ -33,10 +24,9 @@ pub edges :
 unfolding askFrame isDigit digitValue read2 read4 read8 founding command frame if_then_else_ require every
 edges = (refl, refl, refl, refl, refl)
 
--- 010100000096000000010002, and EE0D
-pub last-line :
-    (outcomeText (Answered (Found 1 150 1 2)) ≡ 48 ∷ 49 ∷ 48 ∷ 49 ∷ (replicate 6 48 ++ (57 ∷ 54 ∷ (replicate 7 48 ++ (49 ∷ 48 ∷ 48 ∷ 48 ∷ 50 ∷ [])))))
-    × (outcomeText (Refused IDENTIFIER-COUNT) ≡ 69 ∷ 69 ∷ 48 ∷ 68 ∷ [])
+-- EE0D and EEFF
+pub refusals :
+    (outcomeText (Refused IDENTIFIER-COUNT) ≡ 69 ∷ 69 ∷ 48 ∷ 68 ∷ [])
     × (refusalText UNREADABLE ≡ 69 ∷ 69 ∷ 70 ∷ 70 ∷ [])
-unfolding answerWords digitOf print2 print4 print8 refusalText fieldsText outcomeText if_then_else_
-last-line = (refl, refl, refl)
+unfolding digitOf print2 refusalText outcomeText if_then_else_
+refusals = (refl, refl)
