@@ -54,6 +54,11 @@ route-leads : (n p : ℕ) (h : Row) (f v : ℕ) → h .pred < n → h .succ < n 
 unfolding route
 route-leads n p h f v k l = choose (Leads n) _ _ _ (λ _. k) (λ _. onward-leads n p h v l)
 
+-- hops still fit after a delivery: all that is needed of the rule by which they grow
+grown-fits : (m : Message) → m .hops ≤ 65535 → grown m ≤ 65535
+unfolding grown
+grown-fits m l = choose (λ z. z ≤ 65535) _ (m .hops + 1) (m .hops) (λ t. omega (arith, ltb→lt (m .hops) 65535 t)) (λ _. l)
+
 -- A decision at a hub with row h, in a ring of n hubs with q questions asked: its row and its message are as they must be. It refuses by 10 alone.
 abbrev pub Sound : ℕ → ℕ → Row → Decision → Type 0
 Sound n q h (Refuse k) = k ≡ 10
@@ -109,11 +114,6 @@ module _ (n q : ℕ) (h : Row) (r : RowForm n h) (m : Message) (ok : MessageForm
     flag = elim (r .flag) [ inl k ↦ inl k | inr k ↦ absurd (omega arith) ];
   }
 
-  hops-form : m .kind ≡ LOOKUP → grown m ≤ 65535
-  unfolding grown
-  hops-form e =
-      choose (λ z. z ≤ 65535) (ltb (m .hops) 65535) (m .hops + 1) (m .hops) (λ t. omega (arith, ltb→lt (m .hops) 65535 t)) (λ _. ok .lookup e .1)
-
   lookup-routed-sound : m .kind ≡ LOOKUP → (z : Route) → Leads n z → Well (lookupRouted h m z)
   unfolding lookupRouted namesNode
   lookup-routed-sound e Own l = (r, refl)
@@ -127,7 +127,7 @@ module _ (n q : ℕ) (h : Row) (r : RowForm n h) (m : Message) (ok : MessageForm
       to = l;
       node = λ _ ne. absurd (ne refl);
       zero = λ _ ne. absurd (ne refl);
-      lookup = λ _. (ok .lookup e .0, hops-form e);
+      lookup = λ _. (ok .lookup e .0, grown-fits m (ok .lookup e .1));
       plain = λ ne. absurd (ne refl);
     },
   )
