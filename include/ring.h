@@ -75,7 +75,7 @@ enum ring_operation {
 /* The kind of a step's answer, its first word. The other words are hub, number, ticket and hops; a word that a kind does not have is 0. */
 enum ring_answer {
     RING_QUIET = 0,            /* nothing to tell */
-    RING_FOUND = 1,            /* hub, number, ticket, hops */
+    RING_FOUND = 1,            /* hub, number, ticket, and hops: the links that the question used, 65535 for so many or more */
     RING_ENTERED = 2,          /* the hub that now takes part */
     RING_GONE = 3,             /* the hub that no longer does */
     RING_JOIN_TURNED_AWAY = 4, /* the hub, outside again: it may try later */

@@ -177,6 +177,24 @@ static void tickets_before_places(void)
     expect(ring_step(full, sizeof full, RING_ASK, 0, ring_word(identifiers, 0), out, sizeof out) == RING_TICKETS_USED_UP, "12 where none is sent");
 }
 
+/* Hops count links: hub 0, which hub 1 enters behind, sends a question to itself and then to hub 1. The first has used no link, the second one. */
+static void hops_count_links(void)
+{
+    static uint8_t two[RING_RECORD_BYTES];
+    uint8_t out[RING_ANSWER_BYTES];
+    uint32_t code = ring_fresh(two, sizeof two, identifiers, sizeof identifiers);
+    code |= ring_step(two, sizeof two, RING_JOIN, 1, 0, out, sizeof out);
+    code |= ring_step(two, sizeof two, RING_DELIVER, 1, 0, out, sizeof out);
+    expect(code == RING_OK && ring_word(out, 0) == RING_ENTERED, "hub 1 enters");
+    code |= ring_step(two, sizeof two, RING_ASK, 0, ring_word(identifiers, 1), out, sizeof out);
+    code |= ring_step(two, sizeof two, RING_DELIVER, 0, 1, out, sizeof out); /* JOINPOINT */
+    expect(ring_word(two, 453) == 0 && ring_word(two, 454) == 0 && ring_word(two, 457) == 0, "a question from hub 0 to itself, hops 0");
+    code |= ring_step(two, sizeof two, RING_DELIVER, 0, 0, out, sizeof out);
+    expect(ring_word(two, 459) == 0 && ring_word(two, 460) == 1 && ring_word(two, 463) == 0, "sent on to hub 1, hops 0 still");
+    code |= ring_step(two, sizeof two, RING_DELIVER, 0, 1, out, sizeof out);
+    expect(code == RING_OK && ring_word(out, 0) == RING_FOUND && ring_word(out, 1) == 1 && ring_word(out, 4) == 1, "found at hub 1, hops 1");
+}
+
 static void owner_at_each_length(void)
 {
     for (size_t len = 0; len <= 8; len++) {
@@ -219,6 +237,7 @@ int main(void)
         record_of_each_length();
         step_refused();
         tickets_before_places();
+        hops_count_links();
         owner_at_each_length();
         owner_refused();
     }

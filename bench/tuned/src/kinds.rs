@@ -99,11 +99,11 @@ impl<W: Word> Delivery<'_, W> {
         })
     }
 
-    /// 1: hops grow, at the owner too.
+    /// 1: hops grow, at the owner too, but for a message of the receiver's own.
     fn lookup(&self) -> Outcome {
         self.needs(self.row.in_ring())?;
         let Message { from, to, a, b, .. } = self.message;
-        let hops = (self.message.hops + 1).min(MOST_HOPS);
+        let hops = (self.message.hops + u32::from(from != to)).min(MOST_HOPS);
         Ok(match next_hub(self.record, &self.row, Some(from), a) {
             None => (
                 None,

@@ -57,7 +57,8 @@ route-leads n p h f v k l = choose (Leads n) _ _ _ (λ _. k) (λ _. onward-leads
 -- hops still fit after a delivery: all that is needed of the rule by which they grow
 grown-fits : (m : Message) → m .hops ≤ 65535 → grown m ≤ 65535
 unfolding grown
-grown-fits m l = choose (λ z. z ≤ 65535) _ (m .hops + 1) (m .hops) (λ t. omega (arith, ltb→lt (m .hops) 65535 t)) (λ _. l)
+grown-fits m l =
+    choose (λ z. z ≤ 65535) _ _ _ (λ _. l) (λ _. choose (λ z. z ≤ 65535) _ (m .hops + 1) (m .hops) (λ t. omega (arith, ltb→lt (m .hops) 65535 t)) (λ _. l))
 
 -- A decision at a hub with row h, in a ring of n hubs with q questions asked: its row and its message are as they must be. It refuses by 10 alone.
 abbrev pub Sound : ℕ → ℕ → Row → Decision → Type 0

@@ -1,4 +1,5 @@
--- Document 01's starred probes, as one list. That each of them passes is `probes` in Probed.antt.
+-- Document 01's starred probes, as one list, the listing's last line as document 02 (2026-01) has it. That each of them passes is `probes` in
+-- Probed.antt.
 use mathlib.Core.Path.{_≡_}
 use mathlib.Core.Bool.{Bool, true, false}
 use mathlib.Core.List.{List, [], _∷_, _++_, map}
@@ -68,7 +69,7 @@ eightCalls = ask 0 150 ∷ join 1 0 ∷ deliver 1 0 ∷ ask 0 150 ∷ deliver 0 
 
 abbrev pub eightOutcomes : List Outcome
 eightOutcomes =
-    quiet ∷ Answered (Found 0 150 0 0) ∷ quiet ∷ Answered (Entered 1) ∷ quiet ∷ quiet ∷ quiet ∷ Answered (Found 1 150 1 2) ∷ []
+    quiet ∷ Answered (Found 0 150 0 0) ∷ quiet ∷ Answered (Entered 1) ∷ quiet ∷ quiet ∷ quiet ∷ Answered (Found 1 150 1 1) ∷ []
 
 abbrev pub intervals : List Probe
 intervals =
@@ -108,7 +109,7 @@ eightTexts =
     ∷ "000000000000000000000000\n"
     ∷ "000000000000000000000000\n"
     ∷ "000000000000000000000000\n"
-    ∷ "010100000096000000010002\n"
+    ∷ "010100000096000000010001\n"
     ∷ []
 
 abbrev pub listing : List Probe

@@ -44,9 +44,13 @@ abbrev pub withSucc : Row → ℕ → Row
 withSucc h v =
     record { identifier = h .identifier; state = h .state; lock = h .lock; flag = h .flag; pred = h .pred; succ = v; oldpred = h .oldpred }
 
--- 1 LOOKUP (a number, b ticket): 'state 2 to 4. Hops grow by 1, staying at 65535 once there. Routed; the owner answers found.'
+-- 1 LOOKUP (a number, b ticket): 'state 2 to 4 .. Routed; the owner answers found.' Hops count the links that the question has used: one more
+-- at each delivery, but none where a hub sent it to itself (document 02, 2026-01), and 65535 stays.
 unfoldable pub grown : Message → ℕ
-grown m = if ltb (m .hops) 65535 then m .hops + 1 else m .hops
+grown m =
+    if eqb (m .from) (m .to) then m .hops
+    else if ltb (m .hops) 65535 then m .hops + 1
+    else m .hops
 
 unfoldable pub lookupRouted : Row → Message → Route → Decision
 lookupRouted h m Own = Reply h (Found (m .to) (m .a) (m .b) (grown m))

@@ -11,10 +11,13 @@ use protocol::states;
 ghost use mathlib.Core.Path.{_≡_};
 ghost use Rattle.protocol.specs.Kinds.{grown as grownSpec, lookupRouted, lookup as lookupSpec};
 
-// 'Hops grow by 1, staying at 65535 once there.'
+// Hops count links: a message from a hub to itself uses none. At 65535 they stay.
 fn grown(m: Message) -> u32
     ensures { λ r. ⌜ r ≡ grownSpec m ⌝ }
 {
+    if m.from == m.to {
+        return m.hops;
+    }
     if m.hops < 65535 {
         return m.hops + 1;
     }

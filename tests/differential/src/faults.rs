@@ -4,8 +4,10 @@
 use std::cell::Cell;
 
 use ring_model::bytes::{ANSWER_BYTES, NO_REFUSAL, OWNER_BYTES};
+use ring_model::command::DELIVER;
+use ring_model::kinds::LOOKUP;
 use ring_model::queries::holds;
-use ring_model::record::State;
+use ring_model::record::{message_start, State};
 use ring_model::refusal::{
     IDENTIFIERS_REPEAT, LINK_EMPTY, NOT_AS_REQUIRED, NOT_WELL_FORMED, OUTPUT_SHORT, RECORD_SHORT,
 };
@@ -47,7 +49,7 @@ pub struct Fault {
 type Step = fn(&mut [u8], u32, u32, u32, &mut [u8]) -> u32;
 
 /// Wrong steps: what is wrong, the part that must see it, and the step.
-const STEPS: [(&str, &str, Step); 10] = [
+const STEPS: [(&str, &str, Step); 12] = [
     ("an answer's last byte differs, seldom", "runs", answer_differs),
     ("a byte of the record differs, seldom", "runs", record_differs),
     ("a byte behind the record is written, seldom", "runs", writes_behind),
@@ -56,6 +58,8 @@ const STEPS: [(&str, &str, Step); 10] = [
     ("a message that waits is refused, seldom", "runs", refuses_delivery),
     ("9 where it should be 10", "unreachable", link_empty),
     ("hops go on behind 65535", "unreachable", hops_go_on),
+    ("a message to itself counts as a hop", "runs", own_message_counts),
+    ("no link counts as a hop", "runs", no_link_counts),
     ("the record's last word is not looked at", "damaged", last_word_unseen),
     ("17 is asked after 1", "lengths", output_asked_late),
 ];
@@ -179,6 +183,38 @@ fn hops_go_on(words: &mut [u8], operation: u32, x: u32, y: u32, out: &mut [u8]) 
         put_word(out, 4, 65536);
     }
     code
+}
+
+fn own_message_counts(words: &mut [u8], operation: u32, x: u32, y: u32, out: &mut [u8]) -> u32 {
+    let (code, hops) = sent_on(words, operation, x, y, out);
+    if let Some(hops) = hops.filter(|_| x == y) {
+        put_word(words, hops, word_at(words, hops) + 1);
+    }
+    code
+}
+
+fn no_link_counts(words: &mut [u8], operation: u32, x: u32, y: u32, out: &mut [u8]) -> u32 {
+    let (code, hops) = sent_on(words, operation, x, y, out);
+    if let Some(hops) = hops.filter(|_| x != y) {
+        put_word(words, hops, word_at(words, hops) - 1);
+    }
+    code
+}
+
+/// A step, and where the hops stand if it delivered a LOOKUP that was sent on: as many messages
+/// wait as before, and the last is a LOOKUP.
+fn sent_on(
+    words: &mut [u8],
+    operation: u32,
+    x: u32,
+    y: u32,
+    out: &mut [u8],
+) -> (u32, Option<usize>) {
+    let waited = word_at(words, 2);
+    let code = engine::step(words, operation, x, y, out);
+    let accepted = code == NO_REFUSAL && operation == DELIVER && word_at(words, 2) == waited;
+    let last = accepted.then(|| message_start(waited as usize - 1));
+    (code, last.filter(|&last| word_at(words, last) == LOOKUP).map(|last| last + 5))
 }
 
 /// What lies in the last word does not count.

@@ -1,7 +1,7 @@
 //! What the calls have reached, so that a run can tell whether it tried enough.
 
 use ring_model::command::{ASK, DELIVER, JOIN};
-use ring_model::kinds::{as_required, LEAVEDONE};
+use ring_model::kinds::{as_required, LEAVEDONE, LOOKUP};
 use ring_model::record::{Message, State, MAX_HOPS, MAX_MESSAGES};
 use ring_model::{Answer, Command};
 
@@ -35,6 +35,7 @@ pub struct Reached {
     full: u64,
     joined_again: u64,
     hops_stay: u64,
+    to_itself: u64,
 }
 
 impl Reached {
@@ -73,6 +74,7 @@ impl Reached {
         if as_required(state, message) {
             self.delivered[message.kind as usize] += 1;
             self.hops_stay += u64::from(message.hops == MAX_HOPS);
+            self.to_itself += u64::from(message.kind == LOOKUP && message.from == message.to);
         } else {
             self.not_expected[message.kind as usize] += 1;
         }
@@ -103,6 +105,7 @@ impl Reached {
         self.full += other.full;
         self.joined_again += other.joined_again;
         self.hops_stay += other.hops_stay;
+        self.to_itself += other.to_itself;
     }
 
     /// The table: names and counts.
@@ -125,6 +128,7 @@ impl Reached {
             ("steps at 256 messages", one(self.full)),
             ("joins of a node whose LEAVEDONE waits", one(self.joined_again)),
             ("LOOKUPs delivered with hops at 65535", one(self.hops_stay)),
+            ("LOOKUPs delivered to their own sender", one(self.to_itself)),
         ];
         calls.into_iter().chain(self.inspected.rows()).collect()
     }

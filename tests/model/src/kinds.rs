@@ -105,11 +105,18 @@ pub fn receive(state: &mut State, message: &Message) -> Answer {
     }
 }
 
+/// A hop is a mobile link used, so a message from a node to itself adds none
+/// (document 02, 2026-01). At 65535 they stay.
+fn hops_with_this_one(message: &Message) -> u32 {
+    let links = u32::from(message.from != message.to);
+    (message.hops + links).min(MAX_HOPS)
+}
+
 /// 1: hops grow first, at the owner too; then routed.
 fn lookup(state: &mut State, message: &Message) -> Answer {
     let t = message.to;
     let (key, ticket) = (message.a, message.b);
-    let hops = (message.hops + 1).min(MAX_HOPS);
+    let hops = hops_with_this_one(message);
     match route(state, t, Some(message.from), key) {
         Route::Owned => Answer::found(t, key, ticket, hops),
         Route::SendOn(next) => {

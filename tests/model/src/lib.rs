@@ -1,4 +1,5 @@
-//! A plain model of the depot hub ring of document 01, for differential tests.
+//! A plain model of the depot hub ring of document 01, with document 02's
+//! requests as they come in, for differential tests.
 //!
 //! It is meant to be read beside document 01 and run beside an engine: each
 //! rule stands here once, in its order, with no thought for speed.

@@ -177,6 +177,17 @@ fn hops_stay_at_65535() {
     }
 }
 
+/// A message to itself uses no link, whether its question is found or sent on.
+#[test]
+fn hops_count_no_message_to_itself() {
+    for hops in [0, 4, 65_534, 65_535] {
+        let found = Answer::found(1, 170, 0, hops);
+        assert_eq!(delivered(FREE, lookup(1, 170, hops)).0, found);
+        let sent_on = [LOOKUP, 1, 0, 50, 0, hops];
+        assert_eq!(delivered(FREE, lookup(1, 50, hops)).2, sent_on);
+    }
+}
+
 #[test]
 fn join_at_every_form() {
     let join = message(JOIN, 0, 1, 2);

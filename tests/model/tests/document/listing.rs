@@ -1,4 +1,5 @@
-//! The eight lines of `ringrun` in document 01.
+//! The eight lines of `ringrun` in document 01. Document 02 (2026-01) has the
+//! last one end in 0001: the message from node 0 to itself uses no link.
 
 use ring_model::frames::answer_line;
 use ring_model::ringrun::run;
@@ -21,7 +22,7 @@ pub const OUTPUT: &str = "000000000000000000000000
 000000000000000000000000
 000000000000000000000000
 000000000000000000000000
-010100000096000000010002
+010100000096000000010001
 ";
 
 #[test]

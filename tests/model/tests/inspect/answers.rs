@@ -27,7 +27,7 @@ fn outcomes_and_counts() {
         ("030000000000000000", "quiet"),
         (
             "030000000000000001",
-            "found: hub 1, number 150, ticket 0, hops 2",
+            "found: hub 1, number 150, ticket 0, hops 1",
         ),
         ("030000000100000000", "quiet"),
         ("030000000000000000", "quiet"),

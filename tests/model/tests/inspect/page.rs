@@ -52,7 +52,7 @@ fn outcomes() {
     let found = format!("{asked}|000000000000000096|030000000000000000|030000000000000001");
     example(
         &format!("{found}|030000000000000001"),
-        "found: hub 1, number 150, ticket 0, hops 2",
+        "found: hub 1, number 150, ticket 0, hops 1",
     );
     example(
         "F000000064000000C8|000000000100000001",
