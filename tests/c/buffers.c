@@ -1,7 +1,7 @@
 /*
- * The C calls at the edges of their buffers: every length around what is needed, left-over bytes, refusals. All is done twice: with guard
- * bytes on both sides of each buffer, which no call may touch, and with none, so that valgrind or AddressSanitizer sees the first byte that
- * is read or written beside a buffer. Prints 'N passed, M failed'.
+ * The C calls at the edges of their buffers: every length around what is needed, left-over bytes, refusals; and what C reads of a question's
+ * hops. All is done twice: with guard bytes on both sides of each buffer, which no call may touch, and with none, so that valgrind or
+ * AddressSanitizer sees the first byte that is read or written beside a buffer. Prints 'N passed, M failed'.
  */
 #include <stdio.h>
 #include <stdlib.h>
@@ -177,7 +177,7 @@ static void tickets_before_places(void)
     expect(ring_step(full, sizeof full, RING_ASK, 0, ring_word(identifiers, 0), out, sizeof out) == RING_TICKETS_USED_UP, "12 where none is sent");
 }
 
-/* Hops count links: hub 0, which hub 1 enters behind, sends a question to itself and then to hub 1. The first has used no link, the second one. */
+/* Hops count links: while hub 1 enters, hub 0 sends a question to itself and then to hub 1. The first message uses no link, the second one. */
 static void hops_count_links(void)
 {
     static uint8_t two[RING_RECORD_BYTES];
