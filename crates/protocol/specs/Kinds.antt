@@ -44,8 +44,8 @@ abbrev pub withSucc : Row → ℕ → Row
 withSucc h v =
     record { identifier = h .identifier; state = h .state; lock = h .lock; flag = h .flag; pred = h .pred; succ = v; oldpred = h .oldpred }
 
--- 1 LOOKUP (a number, b ticket): 'state 2 to 4 .. Routed; the owner answers found.' Hops count the links that the question has used: one more
--- at each delivery, but none where a hub sent it to itself (document 02, 2026-01), and 65535 stays.
+-- 1 LOOKUP (a number, b ticket), at a hub in the ring: it is routed, and its owner answers found. Hops count the links that the question has
+-- used: one more at each delivery, but none where a hub sent it to itself (document 02, 2026-01); 65535 stays.
 unfoldable pub grown : Message → ℕ
 grown m =
     if eqb (m .from) (m .to) then m .hops

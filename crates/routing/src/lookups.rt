@@ -11,7 +11,7 @@ use protocol::states;
 ghost use mathlib.Core.Path.{_≡_};
 ghost use Rattle.protocol.specs.Kinds.{grown as grownSpec, lookupRouted, lookup as lookupSpec};
 
-// Hops count links: a message from a hub to itself uses none. At 65535 they stay.
+// Hops count the links used so far, so what a hub sent to itself adds nothing. At 65535 they stay.
 fn grown(m: Message) -> u32
     ensures { λ r. ⌜ r ≡ grownSpec m ⌝ }
 {

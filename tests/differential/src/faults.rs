@@ -186,35 +186,30 @@ fn hops_go_on(words: &mut [u8], operation: u32, x: u32, y: u32, out: &mut [u8]) 
 }
 
 fn own_message_counts(words: &mut [u8], operation: u32, x: u32, y: u32, out: &mut [u8]) -> u32 {
-    let (code, hops) = sent_on(words, operation, x, y, out);
-    if let Some(hops) = hops.filter(|_| x == y) {
-        put_word(words, hops, word_at(words, hops) + 1);
-    }
-    code
+    with_hops(words, [operation, x, y], out, |hops| hops + u32::from(x == y))
 }
 
 fn no_link_counts(words: &mut [u8], operation: u32, x: u32, y: u32, out: &mut [u8]) -> u32 {
-    let (code, hops) = sent_on(words, operation, x, y, out);
-    if let Some(hops) = hops.filter(|_| x != y) {
-        put_word(words, hops, word_at(words, hops) - 1);
-    }
-    code
+    with_hops(words, [operation, x, y], out, |hops| hops - u32::from(x != y))
 }
 
-/// A step, and where the hops stand if it delivered a LOOKUP that was sent on: as many messages
-/// wait as before, and the last is a LOOKUP.
-fn sent_on(
+/// A step that gives other hops to a LOOKUP which it delivers and which is sent on: as many
+/// messages wait as before, and the last is a LOOKUP.
+fn with_hops(
     words: &mut [u8],
-    operation: u32,
-    x: u32,
-    y: u32,
+    [operation, x, y]: [u32; 3],
     out: &mut [u8],
-) -> (u32, Option<usize>) {
+    other: impl Fn(u32) -> u32,
+) -> u32 {
     let waited = word_at(words, 2);
     let code = engine::step(words, operation, x, y, out);
-    let accepted = code == NO_REFUSAL && operation == DELIVER && word_at(words, 2) == waited;
-    let last = accepted.then(|| message_start(waited as usize - 1));
-    (code, last.filter(|&last| word_at(words, last) == LOOKUP).map(|last| last + 5))
+    if code == NO_REFUSAL && operation == DELIVER && word_at(words, 2) == waited {
+        let last = message_start(waited as usize - 1);
+        if word_at(words, last) == LOOKUP {
+            put_word(words, last + 5, other(word_at(words, last + 5)));
+        }
+    }
+    code
 }
 
 /// What lies in the last word does not count.
