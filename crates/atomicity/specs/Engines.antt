@@ -1,18 +1,16 @@
 -- What demand 3's proof needs of an engine: which states its records hold, how they stand in words, and that its calls are the steps of
 -- these states. Assumes nothing.
 use mathlib.Core.Path.{_≡_, refl, sym, _∙_, ap, subst}
-use mathlib.Core.Bool.{Bool, true, false, _&&_}
 use mathlib.Core.List.{List, _++_}
 use Prim.Native.Nat.{ℕ, _≤_}
-use lib.Dec.{T, leb, leb→le, le→leb}
+use lib.Dec.{T, le→leb}
 use lib.ListN.{length, drop}
-use Rattle.lists.specs.Basics.{if_then_else_, require, distinct}
+use Rattle.lists.specs.Basics.{distinct}
 use Rattle.lists.specs.Choice.{granted}
 use Rattle.protocol.specs.declared.Answer.{Answer}
 use Rattle.protocol.specs.declared.Answer.the-variants.{Quiet}
 use Rattle.protocol.specs.declared.Outcome.{Outcome}
 use Rattle.protocol.specs.declared.Outcome.the-variants.{Refused, Answered}
-use Rattle.protocol.specs.Names.{IDENTIFIER-COUNT, IDENTIFIER-TWICE, RECORD-SHORT}
 use Rattle.protocol.specs.Record.{mostNodes, recordSize, State, words}
 use Rattle.protocol.specs.Fresh.{fresh}
 use Rattle.protocol.specs.Step.{Result, refused, step}
@@ -20,6 +18,7 @@ use Rattle.protocol.specs.Step.{accepted as went}
 use Rattle.protocol.specs.Calls.{Called, long, onRecord, written, turnedDown, stepCall, freshCall}
 use Rattle.layout.specs.Words.{read-words, drop-words}
 use Rattle.layout.specs.Form.{Form, well-formed-words, long-words}
+use Rattle.layout.specs.Questions.{fresh-cases}
 use Rattle.atomicity.specs.Preserved.{Leaves, leaves-form, step-form}
 use Rattle.atomicity.specs.Demand3.{Call, Engine, present, called}
 
@@ -59,29 +58,6 @@ pub record Laws (engine : Engine) : Type 1 where
   pub begins : (slice ids : List ℕ) → engine .founds slice ids .outcome ≡ Answered Quiet → Begun put ids (engine .founds slice ids .slice)
   pub starts : (ids : List ℕ) → Form (fresh ids) → Fits (fresh ids)
 
--- The questions of a fresh call that was accepted.
-module _ (slice ids : List ℕ) (c : Called) where
-  abbrev founding : Bool → Called
-  founding b =
-      require b (turnedDown slice RECORD-SHORT)
-      (require (leb 1 (length ids) && leb (length ids) mostNodes) (turnedDown slice IDENTIFIER-COUNT) (require (distinct ids) (turnedDown slice IDENTIFIER-TWICE) c))
-
-  founding-yes : (b : Bool) → founding b .outcome ≡ Answered Quiet → (1 ≤ length ids) × (length ids ≤ mostNodes) × T (distinct ids) × (founding b ≡ c)
-  unfolding require if_then_else_
-  founding-yes b = go b (leb 1 (length ids)) (leb→le 1 (length ids)) (leb (length ids) mostNodes) (leb→le (length ids) mostNodes) (distinct ids) (λ t. t) refl
-    where
-      given : Bool → Bool → Bool → Bool → Called
-      given x y z d = require x (turnedDown slice RECORD-SHORT) (require (y && z) (turnedDown slice IDENTIFIER-COUNT) (require d (turnedDown slice IDENTIFIER-TWICE) c))
-
-      go : (x y : Bool) → (T y → 1 ≤ length ids) → (z : Bool) → (T z → length ids ≤ mostNodes) → (d : Bool) → (T d → T (distinct ids))
-          → founding b ≡ given x y z d → given x y z d .outcome ≡ Answered Quiet
-          → (1 ≤ length ids) × (length ids ≤ mostNodes) × T (distinct ids) × (founding b ≡ c)
-      go true true f true g true h e o = (f tt, g tt, h tt, e)
-      go true true f true g false h e o = absurd (refused-answered o)
-      go true true f false g d h e o = absurd (refused-answered o)
-      go true false f z g d h e o = absurd (refused-answered o)
-      go false y f z g d h e o = absurd (refused-answered o)
-
 -- On the words of a well-formed state a call is the step of that state.
 pub call-is : (s : State) (tail : List ℕ) (c : Call) → Form s
     → called present (words s ++ tail) c ≡ written (words s ++ tail) (step s (c .operation) (c .x) (c .y))
@@ -107,10 +83,11 @@ leaves-on (refused k) l = tt
 leaves-on (went a s) l = leaves-form a s l
 
 pub present-begins : (slice ids : List ℕ) → freshCall slice ids .outcome ≡ Answered Quiet → Begun (λ s tail. words s ++ tail) ids (freshCall slice ids .slice)
-unfolding freshCall written
-present-begins slice ids o =
-    let k = founding-yes slice ids (written slice (went Quiet (fresh ids))) (long slice) o in
-    record { some = k .0; few = k .1; differ = k .2; tail = drop recordSize slice; is = ap (λ z. z .slice) (k .3) }
+unfolding written
+present-begins slice ids =
+    fresh-cases slice ids (λ z. z .outcome ≡ Answered Quiet → Begun (λ s tail. words s ++ tail) ids (z .slice))
+    (λ k l e. absurd (refused-answered e))
+    (λ a e. record { some = a .some; few = a .few; differ = a .differ; tail = drop recordSize slice; is = refl })
 
 abbrev pub present-laws : Laws present
 present-laws = record {

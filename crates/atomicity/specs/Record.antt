@@ -1,15 +1,15 @@
 -- Laws of a record under calls, for EVERY record and command: an accepted step, and an accepted fresh, leave it well formed; words past
 -- the record are kept; on well-formed records words and state are inverse. Assumes nothing.
 use mathlib.Core.Path.{_≡_, refl, _∙_, subst}
-use mathlib.Core.Bool.{true, _&&_}
+use mathlib.Core.Bool.{true}
 use mathlib.Core.List.{List, _++_}
 use Prim.Native.Nat.{ℕ, _≤_}
 use native.Mathlib.Omega.{arith}
-use lib.Dec.{T, leb, leb→le, le→leb}
+use lib.Dec.{T, leb, leb→le}
 use lib.ListN.{length, drop, length-append, length-drop}
 use Rattle.lists.specs.Basics.{distinct}
-use Rattle.lists.specs.Choice.{tested, granted}
-use Rattle.lists.specs.Tests.{and-left, and-right, and-both, T-true, true-T, says-distinct}
+use Rattle.lists.specs.Choice.{tested}
+use Rattle.lists.specs.Tests.{T-true, true-T, says-distinct}
 use Rattle.protocol.specs.declared.Answer.{Answer}
 use Rattle.protocol.specs.declared.Answer.the-variants.{Quiet}
 use Rattle.protocol.specs.declared.Outcome.{Outcome}
@@ -21,6 +21,7 @@ use Rattle.protocol.specs.Step.{Result, refused, accepted, step}
 use Rattle.protocol.specs.Calls.{Called, long, onRecord, written, turnedDown, stepCall, freshCall}
 use Rattle.layout.specs.Words.{words-read, drop-words, length-words}
 use Rattle.layout.specs.Form.{tidy, form-of, well-formed-words}
+use Rattle.layout.specs.Questions.{fresh-cases, fresh-founds}
 use Rattle.atomicity.specs.Preserved.{Leaves, leaves-form, leaves-accepted, step-form, fresh-form}
 
 -- What a call may do to the words: keep them all, or leave a well-formed record with the later words as they were.
@@ -63,16 +64,10 @@ step-sound w operation x y =
 
 -- So does an accepted fresh.
 pub fresh-sound : (w ids : List ℕ) → Sound w (freshCall w ids)
-unfolding freshCall long
 fresh-sound w ids =
-    tested (Sound w) (leb recordSize (length w)) _ _ (turned-sound w 1)
-    (λ t. tested (Sound w) (leb 1 (length ids) && leb (length ids) mostNodes) _ _ (turned-sound w 13)
-    (λ n. tested (Sound w) (distinct ids) _ _ (turned-sound w 14)
-    (λ d. written-sound w (accepted Quiet (fresh ids)) (leb→le recordSize (length w) t)
-    (leaves-accepted Quiet (fresh ids) (fresh-form ids
-    (leb→le 1 (length ids) (and-left (leb 1 (length ids)) (leb (length ids) mostNodes) n))
-    (leb→le (length ids) mostNodes (and-right (leb 1 (length ids)) (leb (length ids) mostNodes) n))
-    (says-distinct ids .to d))))))
+    fresh-cases w ids (Sound w) (λ k l. turned-sound w k)
+    (λ a. written-sound w (accepted Quiet (fresh ids)) (a .long)
+    (leaves-accepted Quiet (fresh ids) (fresh-form ids (a .some) (a .few) (says-distinct ids .to (a .differ)))))
 
 -- On well-formed records words and state are inverse. (What is written is read: `read-words` of `layout`.)
 pub words-of-read : (w : List ℕ) → recordSize ≤ length w → wellFormed w ≡ true → words (read w) ++ drop recordSize w ≡ w
@@ -81,11 +76,6 @@ words-of-read w l ok = words-read w (tidy w (true-T _ ok) l)
 -- What a fresh call of a good list of identifiers gives.
 pub fresh-gives : (w ids : List ℕ) → recordSize ≤ length w → T (leb 1 (length ids)) → T (leb (length ids) mostNodes) → T (distinct ids)
     → freshCall w ids ≡ record { outcome = Answered Quiet; slice = words (fresh ids) ++ drop recordSize w }
-unfolding freshCall long written
+unfolding written
 fresh-gives w ids l some few differ =
-    granted (λ z. z ≡ r) _ _ _ (le→leb _ _ l)
-    (granted (λ z. z ≡ r) _ _ _ (and-both (leb 1 (length ids)) (leb (length ids) mostNodes) some few)
-    (granted (λ z. z ≡ r) _ _ _ differ refl))
-  where
-    r : Called
-    r = record { outcome = Answered Quiet; slice = words (fresh ids) ++ drop recordSize w }
+    fresh-founds w ids (record { long = l; some = leb→le 1 (length ids) some; few = leb→le (length ids) mostNodes few; differ = differ })

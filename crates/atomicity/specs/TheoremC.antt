@@ -1,24 +1,25 @@
 -- DEMAND 3 of the C calls, proved: the words that the bytes carry go through the steps of the calls that made one. Assumes nothing.
 use mathlib.Core.Path.{_≡_, refl, sym, _∙_, ap, subst}
-use mathlib.Core.Bool.{Bool, true, false, _&&_}
+use mathlib.Core.Bool.{Bool, true, false}
 use mathlib.Core.List.{List, [], _∷_, _++_, append-assoc, append-nil}
 use Prim.Native.Nat.{ℕ}
 use native.Mathlib.Omega.{arith}
 use lib.Dec.{leb}
 use lib.ListN.{length}
-use Rattle.lists.specs.Basics.{if_then_else_, require, distinct, All}
+use Rattle.lists.specs.Basics.{if_then_else_, require, All}
 use Rattle.lists.specs.Choice.{tested}
 use Rattle.lists.specs.Members.{all-append}
 use Rattle.protocol.specs.declared.Answer.the-variants.{Quiet}
 use Rattle.protocol.specs.declared.Outcome.the-variants.{Answered}
-use Rattle.protocol.specs.Names.{RECORD-SHORT, NOT-WELL-FORMED, IDENTIFIER-COUNT, IDENTIFIER-TWICE, OUTPUT-SHORT}
-use Rattle.protocol.specs.Record.{mostNodes, read}
+use Rattle.protocol.specs.Names.{RECORD-SHORT, NOT-WELL-FORMED, OUTPUT-SHORT}
+use Rattle.protocol.specs.Record.{read}
 use Rattle.protocol.specs.WellFormed.{wellFormed}
 use Rattle.protocol.specs.Step.{Result, refused, accepted, step}
 use Rattle.protocol.specs.Calls.{Called, long, onRecord, turnedDown, written, stepCall, freshCall}
 use Rattle.protocol.specs.Answers.{refusal}
 use Rattle.protocol.specs.Bytes.{Byte, wordsOf, bytesAfter, CalledBytes, carried, stepBytes, freshCarried, freshBytes}
 use Rattle.layout.specs.Bytes.{words-below, written-read}
+use Rattle.layout.specs.Questions.{fresh-cases}
 use Rattle.atomicity.specs.Demand3.{Call, ThreeWords, Event, Word, present, called, history, recordAfter, Founded, from-fresh, Claims, Demand3}
 use Rattle.atomicity.specs.Record.{step-sound, fresh-sound}
 use Rattle.atomicity.specs.Theorem.{demand-3}
@@ -73,11 +74,7 @@ module _ (b : List ℕ) where
       (λ l. tested Back (wellFormed (wordsOf b)) _ _ (turned-back NOT-WELL-FORMED) (λ f. written-back (step (read (wordsOf b)) operation x y)))
 
   fresh-back : (ids : List ℕ) → Back (freshCall (wordsOf b) ids)
-  unfolding freshCall
-  fresh-back ids =
-      tested Back (long (wordsOf b)) _ _ (turned-back RECORD-SHORT)
-      (λ l. tested Back (leb 1 (length ids) && leb (length ids) mostNodes) _ _ (turned-back IDENTIFIER-COUNT)
-      (λ n. tested Back (distinct ids) _ _ (turned-back IDENTIFIER-TWICE) (λ d. written-back (accepted Quiet _))))
+  fresh-back ids = fresh-cases (wordsOf b) ids Back (λ k l. turned-back k) (λ a. written-back (accepted Quiet _))
 
 -- A record that was reached in a slice of 32-bit words; and bytes that carry one.
 abbrev Reach : List ℕ → List Event → List ℕ → Type 0
@@ -121,14 +118,9 @@ every-call ids events b r (c ∷ calls) t = go (leb 20 (length (c .out))) (λ e 
 
 -- A fresh call that returns 0 was accepted.
 fresh-zero : (w ids : List ℕ) → refusal (freshCall w ids .outcome) ≡ 0 → freshCall w ids .outcome ≡ Answered Quiet
-unfolding freshCall refusal written
+unfolding refusal written
 fresh-zero w ids =
-    tested Zero (long w) _ _ (λ e. absurd (omega arith))
-    (λ l. tested Zero (leb 1 (length ids) && leb (length ids) mostNodes) _ _ (λ e. absurd (omega arith))
-    (λ n. tested Zero (distinct ids) _ _ (λ e. absurd (omega arith)) (λ d e. refl)))
-  where
-    Zero : Called → Type 0
-    Zero z = refusal (z .outcome) ≡ 0 → z .outcome ≡ Answered Quiet
+    fresh-cases w ids (λ z. refusal (z .outcome) ≡ 0 → z .outcome ≡ Answered Quiet) (λ k l e. absurd (omega arith)) (λ a e. refl)
 
 begins : (lent ids : List ℕ) → All Byte lent → All Word ids → refusal (freshCall (wordsOf lent) ids .outcome) ≡ 0
     → At ids [] (bytesAfter lent (freshCall (wordsOf lent) ids .slice) (freshCall (wordsOf lent) ids .outcome))

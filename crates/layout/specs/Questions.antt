@@ -1,15 +1,22 @@
--- Questions 1 and 2, in the words' terms. Assumes nothing.
+-- Questions 1 and 2 in the words' terms, and those of a fresh call. Assumes nothing.
 use mathlib.Core.Path.{_≡_, _∙_}
-use mathlib.Core.Bool.{true, false}
+use mathlib.Core.Bool.{true, false, _&&_}
 use mathlib.Core.List.{List}
 use Prim.Native.Nat.{ℕ, _≤_, _<_}
+use native.Mathlib.Omega.{arith}
+use lib.Dec.{T, leb, leb→le, le→leb}
 use lib.ListN.{length}
 use borrow.Author.Tests.{le-leb, lt-leb}
-use Rattle.lists.specs.Choice.{on-yes, on-no}
-use Rattle.protocol.specs.Names.{NOT-WELL-FORMED, RECORD-SHORT}
-use Rattle.protocol.specs.Record.{recordSize}
+use Rattle.lists.specs.Basics.{distinct}
+use Rattle.lists.specs.Choice.{on-yes, on-no, tested}
+use Rattle.lists.specs.Tests.{T-true, and-left, and-right, and-both}
+use Rattle.protocol.specs.declared.Answer.the-variants.{Quiet}
+use Rattle.protocol.specs.Names.{IDENTIFIER-COUNT, IDENTIFIER-TWICE, NOT-WELL-FORMED, RECORD-SHORT}
+use Rattle.protocol.specs.Record.{mostNodes, recordSize}
+use Rattle.protocol.specs.Fresh.{fresh}
+use Rattle.protocol.specs.Step.{accepted}
 use Rattle.protocol.specs.WellFormed.{wellFormed}
-use Rattle.protocol.specs.Calls.{long, onRecord}
+use Rattle.protocol.specs.Calls.{Called, long, onRecord, turnedDown, written, freshCall}
 
 pub long-yes : (w : List ℕ) → recordSize ≤ length w → long w ≡ true
 unfolding long
@@ -31,3 +38,33 @@ module _ {A : Type 0} (w : List ℕ) (no-result : ℕ → A) (rest : A) where
   pub record-rest : recordSize ≤ length w → wellFormed w ≡ true → onRecord w no-result rest ≡ rest
   unfolding onRecord
   record-rest l e = on-yes _ _ _ (long-yes w l) ∙ on-yes _ _ _ e
+
+-- What a fresh call asks.
+pub record Asked (w ids : List ℕ) : Type 0 where
+  pub long : recordSize ≤ length w
+  pub some : 1 ≤ length ids
+  pub few : length ids ≤ mostNodes
+  pub differ : T (distinct ids)
+
+module _ (w ids : List ℕ) where
+  -- What holds of its result: a question was answered no, and has a number above 0; or each was answered yes.
+  pub fresh-cases : (P : Called → Type 0) → ((k : ℕ) → 0 < k → P (turnedDown w k)) → (Asked w ids → P (written w (accepted Quiet (fresh ids)))) → P (freshCall w ids)
+  unfolding freshCall long
+  fresh-cases P refuses founds =
+      tested P (leb recordSize (length w)) _ _ (refuses RECORD-SHORT (omega arith))
+      (λ l. tested P (leb 1 (length ids) && leb (length ids) mostNodes) _ _ (refuses IDENTIFIER-COUNT (omega arith))
+      (λ n. tested P (distinct ids) _ _ (refuses IDENTIFIER-TWICE (omega arith))
+      (λ d. founds (record {
+        long = leb→le recordSize (length w) l;
+        some = leb→le 1 (length ids) (and-left (leb 1 (length ids)) (leb (length ids) mostNodes) n);
+        few = leb→le (length ids) mostNodes (and-right (leb 1 (length ids)) (leb (length ids) mostNodes) n);
+        differ = d;
+      }))))
+
+  -- And where each is answered yes, it founds.
+  pub fresh-founds : Asked w ids → freshCall w ids ≡ written w (accepted Quiet (fresh ids))
+  unfolding freshCall
+  fresh-founds a =
+      on-yes _ _ _ (long-yes w (a .long))
+      ∙ on-yes _ _ _ (T-true _ (and-both (leb 1 (length ids)) (leb (length ids) mostNodes) (le→leb _ _ (a .some)) (le→leb _ _ (a .few))))
+      ∙ on-yes _ _ _ (T-true _ (a .differ))
