@@ -37,7 +37,7 @@ extern "C" {
 enum ring_code {
     RING_OK = 0,
     RING_RECORD_SHORT = 1,    /* `words` has fewer than RING_RECORD_BYTES bytes */
-    RING_NOT_WELL_FORMED = 2, /* the record is damaged: ring_fresh and ring_step leave none that is refused so */
+    RING_NOT_WELL_FORMED = 2, /* the record is damaged: the calls that found a ring, and ring_step, leave none that is refused so */
     RING_NO_OPERATION = 3,    /* the operation is not one of enum ring_operation */
     RING_NO_HUB = 4,          /* a hub number is not below the number of hubs */
     RING_NOT_IN_RING = 5,     /* the hub is outside or still joining */
@@ -52,7 +52,8 @@ enum ring_code {
     RING_IDENTIFIER_TWICE = 14, /* fresh: two identifiers are equal */
     RING_NO_HOLDER = 15,      /* owner: no hub holds the number */
     RING_NO_WAY_ROUND = 16,   /* roll call: following the successors does not come back */
-    RING_OUTPUT_SHORT = 17    /* `out` is too short: asked before anything else */
+    RING_OUTPUT_SHORT = 17,   /* `out` is too short: asked before anything else */
+    RING_NO_FOUNDER = 18      /* fresh: the founder named is not below the number of hubs */
 };
 
 /* A hub's state: the second of the seven words of its row, which begins at byte 16 + 28 times the hub's number of the record. */
@@ -85,7 +86,7 @@ enum ring_answer {
 };
 
 /*
- * ring_fresh - found a ring: hub 0 inside, the others outside, no message.
+ * ring_fresh - found a ring: the hub with the smallest identifier inside, wherever it stands in the list, the others outside, no message.
  *
  *   words, words_len              the record, written over; length in bytes
  *   identifiers, identifiers_len  the hubs' identifiers, four bytes each, lowest first; length in bytes
@@ -93,6 +94,16 @@ enum ring_answer {
  * Returns RING_OK, RING_RECORD_SHORT, RING_IDENTIFIER_COUNT or RING_IDENTIFIER_TWICE.
  */
 uint32_t ring_fresh(uint8_t *words, size_t words_len, const uint8_t *identifiers, size_t identifiers_len);
+
+/*
+ * ring_fresh_by - the same with the founder named: that hub inside, the others outside. For a caller that knows which hub is plugged in,
+ * or relies on the first one: founder 0.
+ *
+ *   founder  a hub number; any number may be given
+ *
+ * Returns what ring_fresh does, or RING_NO_FOUNDER, which is asked last.
+ */
+uint32_t ring_fresh_by(uint8_t *words, size_t words_len, const uint8_t *identifiers, size_t identifiers_len, uint32_t founder);
 
 /*
  * ring_step - one command on the record.
@@ -124,7 +135,7 @@ static inline uint32_t ring_word(const uint8_t *bytes, size_t i)
 }
 
 /*
- * Example: a ring of hubs 100 and 200, of which hub 0 (identifier 100) is asked who owns 150.
+ * Example: a ring of hubs 100 and 200. Hub 0 (identifier 100) has the smallest identifier, so it founds, and is asked who owns 150.
  *
  *   static const uint8_t identifiers[] = {100, 0, 0, 0, 200, 0, 0, 0};
  *   static uint8_t ring[RING_RECORD_BYTES];

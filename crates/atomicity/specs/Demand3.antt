@@ -12,7 +12,7 @@ use Rattle.protocol.specs.declared.Answer.the-variants.{Quiet, Found}
 use Rattle.protocol.specs.declared.Outcome.{Outcome}
 use Rattle.protocol.specs.declared.Outcome.the-variants.{Refused, Answered}
 use Rattle.protocol.specs.Record.{round, State, read}
-use Rattle.protocol.specs.Calls.{Called, stepCall, freshCall}
+use Rattle.protocol.specs.Calls.{Called, stepCall, freshByCall}
 use Rattle.protocol.specs.Membership.{foundingMembers, afterOutcome, node, ownerAmong, holds, waiting, ticketOf, acceptedAsk}
 
 -- A call of the list: 'steps with any three numbers as command'.
@@ -30,14 +30,14 @@ pub record ThreeWords (c : Call) : Type 0 where
   pub x : Word (c .x)
   pub y : Word (c .y)
 
--- A form of record: the state that its words stand for, the fresh call and the step.
+-- A form of record: the state that its words stand for, the fresh call with its founder, and the step.
 pub record Engine : Type 0 where
   pub reads : List ℕ → State
-  pub founds : List ℕ → List ℕ → Called
+  pub founds : List ℕ → List ℕ → ℕ → Called
   pub steps : List ℕ → ℕ → ℕ → ℕ → Called
 
 abbrev pub present : Engine
-present = record { reads = read; founds = freshCall; steps = stepCall }
+present = record { reads = read; founds = freshByCall; steps = stepCall }
 
 abbrev pub called : Engine → List ℕ → Call → Called
 called engine w c = engine .steps w (c .operation) (c .x) (c .y)
@@ -70,33 +70,33 @@ unfoldable pub foundTickets : List Event → List ℕ
 foundTickets [] = []
 foundTickets (e ∷ events) = ticketOf (e .outcome) ++ foundTickets events
 
--- A record reached from a fresh ring, with the calls behind it: any lent slice, any identifiers that fresh accepts, and any list of calls,
--- refused ones included.
-pub record Founded (engine : Engine) (ids : List ℕ) (events : List Event) (w : List ℕ) : Type 0 where
+-- A record reached from a fresh ring, with the calls behind it: any lent slice, any identifiers and any founder that fresh accepts, and any
+-- list of calls, refused ones included. Where the caller names no founder, it is the hub of the smallest identifier (`freshCall`).
+pub record Founded (engine : Engine) (ids : List ℕ) (founder : ℕ) (events : List Event) (w : List ℕ) : Type 0 where
   pub slice : List ℕ
   pub calls : List Call
   pub identifiers : All Word ids
   pub commands : All ThreeWords calls
-  pub accepted : engine .founds slice ids .outcome ≡ Answered Quiet
-  pub happened : events ≡ history engine (engine .founds slice ids .slice) calls
-  pub is : w ≡ recordAfter engine (engine .founds slice ids .slice) calls
+  pub accepted : engine .founds slice ids founder .outcome ≡ Answered Quiet
+  pub happened : events ≡ history engine (engine .founds slice ids founder .slice) calls
+  pub is : w ≡ recordAfter engine (engine .founds slice ids founder .slice) calls
 
-abbrev pub Reached : List ℕ → List Event → List ℕ → Type 0
-Reached ids events w = Founded present ids events w
+abbrev pub Reached : List ℕ → ℕ → List Event → List ℕ → Type 0
+Reached ids founder events w = Founded present ids founder events w
 
-pub from-fresh : {ids : List ℕ} {events : List Event} {w : List ℕ} → Founded present ids events w → Reached ids events w
+pub from-fresh : {ids : List ℕ} {founder : ℕ} {events : List Event} {w : List ℕ} → Founded present ids founder events w → Reached ids founder events w
 from-fresh r = r
 
--- What is claimed of a ring of these identifiers, with these calls behind it and the record w.
-pub record Claims (engine : Engine) (ids : List ℕ) (events : List Event) (w : List ℕ) : Type 0 where
+-- What is claimed of a ring of these identifiers that this hub founded, with these calls behind it and the record w.
+pub record Claims (engine : Engine) (ids : List ℕ) (founder : ℕ) (events : List Event) (w : List ℕ) : Type 0 where
   -- (a) For every machine number at most one hub holds it, and that hub is the ledger's owner of it.
   pub single : (v hub other : ℕ) → Word v → holds (engine .reads w) hub v ≡ true → holds (engine .reads w) other v ≡ true → hub ≡ other
   pub owner : (v hub : ℕ) → Word v → holds (engine .reads w) hub v ≡ true
-      → ownerAmong ids (membersAfter (foundingMembers ids) events) v ≡ node hub
+      → ownerAmong ids (membersAfter (foundingMembers founder) events) v ≡ node hub
   -- (b) Each found answer names the ledger's owner of its number at that call: the ledger that the calls before it left.
   pub found : (before : List Event) (e : Event) (after : List Event) → events ≡ before ++ (e ∷ after)
       → (hub number ticket hops : ℕ) → e .outcome ≡ Answered (Found hub number ticket hops)
-      → ownerAmong ids (membersAfter (foundingMembers ids) before) number ≡ node hub
+      → ownerAmong ids (membersAfter (foundingMembers founder) before) number ≡ node hub
   -- (c) Questions accepted = questions answered + questions waiting.
   pub questions : questionsAccepted events ≡ length (foundTickets events) + waiting (engine .reads w .messages)
   -- (d) No two found answers have the same ticket.
@@ -105,6 +105,6 @@ pub record Claims (engine : Engine) (ids : List ℕ) (events : List Event) (w : 
   pub next : (m : Message) → Mem m (engine .reads w .messages) → (k : ℕ)
       → called engine w (record { operation = 3; x = m .from; y = m .to }) .outcome ≡ Refused k → ⊥
 
--- For every reached record: one list of calls, one ledger.
+-- For every reached record: one founder, one list of calls, one ledger.
 unfoldable pub Demand3 : Type 0
-Demand3 = (ids : List ℕ) (events : List Event) (w : List ℕ) → Reached ids events w → Claims present ids events w
+Demand3 = (ids : List ℕ) (founder : ℕ) (events : List Event) (w : List ℕ) → Reached ids founder events w → Claims present ids founder events w

@@ -1,4 +1,5 @@
--- DEMAND 3 of the C calls, stated: lists of `ring_step` on bytes that an accepted `ring_fresh` wrote, with outputs of any length among them.
+-- DEMAND 3 of the C calls, stated: lists of `ring_step` on bytes that an accepted `ring_fresh_by` wrote (`ring_fresh` is the one whose founder
+-- is the hub of the smallest identifier), with outputs of any length among them.
 -- Where the output is too short, which is 17, no step is made. (A Byte is a number below 256.) Its proof is `c-demand-3` in TheoremC.antt.
 use mathlib.Core.Path.{_≡_}
 use mathlib.Core.List.{List, [], _∷_, _++_}
@@ -6,7 +7,7 @@ use Prim.Native.Nat.{ℕ}
 use lib.Dec.{leb}
 use lib.ListN.{length}
 use Rattle.lists.specs.Basics.{require, All}
-use Rattle.protocol.specs.Bytes.{Byte, wordsOf, CalledBytes, stepBytes, freshBytes}
+use Rattle.protocol.specs.Bytes.{Byte, wordsOf, CalledBytes, stepBytes, freshByBytes}
 use Rattle.atomicity.specs.Demand3.{Call, ThreeWords, Event, present, called, Claims}
 
 -- A call of `ring_step`: its three numbers, and the bytes of the output that it is lent.
@@ -32,19 +33,22 @@ unfoldable pub bytesLeft : List ℕ → List CCall → List ℕ
 bytesLeft bytes [] = bytes
 bytesLeft bytes (c ∷ calls) = bytesLeft (calledBytes bytes c .bytes) calls
 
--- Bytes reached from a fresh ring: any lent bytes, any bytes of identifiers that `ring_fresh` accepts (it returns 0), and any list of calls.
-pub record FoundedBytes (ids : List ℕ) (events : List Event) (bytes : List ℕ) : Type 0 where
+-- Bytes reached from a fresh ring: any lent bytes, any bytes of identifiers and any founder that `ring_fresh_by` accepts (it returns 0), and
+-- any list of calls.
+pub record FoundedBytes (ids : List ℕ) (founder : ℕ) (events : List Event) (bytes : List ℕ) : Type 0 where
   pub lent : List ℕ
   pub identifiers : List ℕ
   pub calls : List CCall
   pub lent-bytes : All Byte lent
   pub identifier-bytes : All Byte identifiers
   pub commands : All (λ c. ThreeWords (c .call)) calls
-  pub accepted : freshBytes lent identifiers .code ≡ 0
+  pub accepted : freshByBytes lent identifiers founder .code ≡ 0
   pub names : ids ≡ wordsOf identifiers
-  pub happened : events ≡ stepsOf (freshBytes lent identifiers .bytes) calls
-  pub is : bytes ≡ bytesLeft (freshBytes lent identifiers .bytes) calls
+  pub happened : events ≡ stepsOf (freshByBytes lent identifiers founder .bytes) calls
+  pub is : bytes ≡ bytesLeft (freshByBytes lent identifiers founder .bytes) calls
 
 -- Demand 3's claims hold of the record that the bytes carry.
 unfoldable pub CDemand3 : Type 0
-CDemand3 = (ids : List ℕ) (events : List Event) (bytes : List ℕ) → FoundedBytes ids events bytes → Claims present ids events (wordsOf bytes)
+CDemand3 =
+    (ids : List ℕ) (founder : ℕ) (events : List Event) (bytes : List ℕ) → FoundedBytes ids founder events bytes
+    → Claims present ids founder events (wordsOf bytes)

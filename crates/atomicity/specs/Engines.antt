@@ -2,7 +2,7 @@
 -- these states. Assumes nothing.
 use mathlib.Core.Path.{_≡_, refl, sym, _∙_, ap, subst}
 use mathlib.Core.List.{List, _++_}
-use Prim.Native.Nat.{ℕ, _≤_}
+use Prim.Native.Nat.{ℕ, _≤_, _<_}
 use lib.Dec.{T, le→leb}
 use lib.ListN.{length, drop}
 use Rattle.lists.specs.Basics.{distinct}
@@ -15,7 +15,7 @@ use Rattle.protocol.specs.Record.{mostNodes, recordSize, State, words}
 use Rattle.protocol.specs.Fresh.{fresh}
 use Rattle.protocol.specs.Step.{Result, refused, step}
 use Rattle.protocol.specs.Step.{accepted as went}
-use Rattle.protocol.specs.Calls.{Called, long, onRecord, written, turnedDown, stepCall, freshCall}
+use Rattle.protocol.specs.Calls.{Called, long, onRecord, written, turnedDown, stepCall, freshByCall}
 use Rattle.layout.specs.Words.{read-words, drop-words}
 use Rattle.layout.specs.Form.{Form, well-formed-words, long-words}
 use Rattle.layout.specs.Questions.{fresh-cases}
@@ -40,12 +40,12 @@ On P (refused k) = Unit {0}
 On P (went a s) = P s
 
 -- What a fresh call has accepted, and what it wrote.
-pub record Begun (put : State → List ℕ → List ℕ) (ids w : List ℕ) : Type 0 where
-  pub some : 1 ≤ length ids
+pub record Begun (put : State → List ℕ → List ℕ) (ids : List ℕ) (founder : ℕ) (w : List ℕ) : Type 0 where
+  pub below : founder < length ids
   pub few : length ids ≤ mostNodes
   pub differ : T (distinct ids)
   pub tail : List ℕ
-  pub is : w ≡ put (fresh ids) tail
+  pub is : w ≡ put (fresh ids founder) tail
 
 pub record Laws (engine : Engine) : Type 1 where
   pub Fits : State → Type 0
@@ -55,8 +55,9 @@ pub record Laws (engine : Engine) : Type 1 where
   pub calls : (s : State) (tail : List ℕ) (c : Call) → Fits s
       → called engine (put s tail) c ≡ left put (put s tail) tail (step s (c .operation) (c .x) (c .y))
   pub keeps : (s : State) → Fits s → (operation x y : ℕ) → On Fits (step s operation x y)
-  pub begins : (slice ids : List ℕ) → engine .founds slice ids .outcome ≡ Answered Quiet → Begun put ids (engine .founds slice ids .slice)
-  pub starts : (ids : List ℕ) → Form (fresh ids) → Fits (fresh ids)
+  pub begins : (slice ids : List ℕ) (founder : ℕ) → engine .founds slice ids founder .outcome ≡ Answered Quiet
+      → Begun put ids founder (engine .founds slice ids founder .slice)
+  pub starts : (ids : List ℕ) (founder : ℕ) → Form (fresh ids founder) → Fits (fresh ids founder)
 
 -- On the words of a well-formed state a call is the step of that state.
 pub call-is : (s : State) (tail : List ℕ) (c : Call) → Form s
@@ -82,12 +83,13 @@ pub leaves-on : (r : Result) → Leaves r → On Form r
 leaves-on (refused k) l = tt
 leaves-on (went a s) l = leaves-form a s l
 
-pub present-begins : (slice ids : List ℕ) → freshCall slice ids .outcome ≡ Answered Quiet → Begun (λ s tail. words s ++ tail) ids (freshCall slice ids .slice)
+pub present-begins : (slice ids : List ℕ) (founder : ℕ) → freshByCall slice ids founder .outcome ≡ Answered Quiet
+    → Begun (λ s tail. words s ++ tail) ids founder (freshByCall slice ids founder .slice)
 unfolding written
-present-begins slice ids =
-    fresh-cases slice ids (λ z. z .outcome ≡ Answered Quiet → Begun (λ s tail. words s ++ tail) ids (z .slice))
+present-begins slice ids founder =
+    fresh-cases slice ids founder (λ z. z .outcome ≡ Answered Quiet → Begun (λ s tail. words s ++ tail) ids founder (z .slice))
     (λ k l e. absurd (refused-answered e))
-    (λ a e. record { some = a .some; few = a .few; differ = a .differ; tail = drop recordSize slice; is = refl })
+    (λ a e. record { below = a .below; few = a .few; differ = a .differ; tail = drop recordSize slice; is = refl })
 
 abbrev pub present-laws : Laws present
 present-laws = record {
@@ -98,5 +100,5 @@ present-laws = record {
   calls = λ s tail c f. call-is s tail c f ∙ written-left s tail f (step s (c .operation) (c .x) (c .y));
   keeps = λ s f operation x y. leaves-on (step s operation x y) (step-form s f operation x y);
   begins = present-begins;
-  starts = λ ids f. f;
+  starts = λ ids founder f. f;
 }

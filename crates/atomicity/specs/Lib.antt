@@ -22,5 +22,6 @@ pub mod Small
 pub mod Demand3C
 pub mod TheoremC
 pub mod Instance
+pub mod Founding
 pub mod Probes
 pub mod Probed

@@ -27,7 +27,7 @@ use Rattle.protocol.specs.declared.Decision.the-variants.{Refuse, Reply, Send}
 use Rattle.protocol.specs.Names.{INSIDE, JOINING, LEAVING, NO-OPERATION, NOT-EXPECTED, OUTSIDE, WANTING-TO-LEAVE, JOIN, JOINRETRY, JOINPOINT, NEWSUCC, NEWSUCCACK, JOINDONE, LEAVEREQ, LEAVERETRY, LEAVEGRANT, LEAVEPOINT, UPDATESUCC, STOPFORWARD, LEAVEDONE, LOOKUP}
 use Rattle.protocol.specs.Record.{mostNodes, mostMessages, none, State, count, row, identifier, message, noMessage, outside, withRow, sent, withoutMessage, ticketed}
 use Rattle.protocol.specs.WellFormed.{namesNode}
-use Rattle.protocol.specs.Fresh.{founder, alone, foundedBy, fresh}
+use Rattle.protocol.specs.Fresh.{alone, foundedBy, fresh}
 use Rattle.protocol.specs.Routing.{inRing, responsible, onward, route}
 use Rattle.protocol.specs.Kinds as kinds
 use Rattle.protocol.specs.Kinds.{note, grown, lookupRouted, joinRouted, admitted, handle}
@@ -587,17 +587,16 @@ module _ (ids : List ℕ) where
   pub length-founded : (f : ℕ) → length (foundedBy f ids) ≡ length ids
   length-founded f = length-set (map outside ids) f (alone f (getD ids f 0)) ∙ length-map ids outside
 
-  pub fresh-form : 1 ≤ length ids → length ids ≤ mostNodes → Distinct ids → Form (fresh ids)
+  pub fresh-form : (f : ℕ) → f < length ids → length ids ≤ mostNodes → Distinct ids → Form (fresh ids f)
   unfolding fresh
-  fresh-form some few differ =
-      let f = founder ids in
+  fresh-form f below few differ =
       let n = length-founded f in
       record {
-        some = rw n some;
+        some = rw n (omega arith);
         few = rw n few;
         short = omega arith;
         differ = subst Distinct (sym (identifiers-founded f)) differ;
         rows = λ h k. rw n (elim (mem-set (map outside ids) f (alone f (getD ids f 0)) h k)
-            [ inl e ↦ subst (RowForm (length ids)) (sym e) (alone-row (length ids) f (getD ids f 0) (omega arith)) | inr j ↦ outside-row (length ids) ids h j ]);
+            [ inl e ↦ subst (RowForm (length ids)) (sym e) (alone-row (length ids) f (getD ids f 0) below) | inr j ↦ outside-row (length ids) ids h j ]);
         messages = λ m k. absurd k;
       }

@@ -1,9 +1,9 @@
--- Document 01's starred probes, proved together. Assumes nothing.
+-- Document 01's starred probes and the foundings of document 02, proved together. Assumes nothing.
 use mathlib.Core.Path.{_≡_, refl, _∙_, ap}
 use mathlib.Core.List.{List, [], _∷_, _++_, map}
 use Prim.Native.Nat.{ℕ}
 use native.Mathlib.Omega.{arith}
-use lib.Dec.{T, leb, leb→le}
+use lib.Dec.{T, leb, ltb, leb→le, ltb→lt}
 use lib.ListN.{length, drop, replicate, length-replicate}
 use Rattle.clockwise.specs.Clockwise.{dist, within}
 use Rattle.lists.specs.Basics.{if_then_else_, require, every, distinct, first, table, flat, All}
@@ -14,14 +14,14 @@ use Rattle.protocol.specs.declared.Outcome.{Outcome}
 use Rattle.protocol.specs.declared.Outcome.the-variants.{Refused, Answered}
 use Rattle.protocol.specs.declared.Frame.the-variants.{Founding, Command}
 use Rattle.protocol.specs.Record.{round, mostNodes, recordSize, State, words}
-use Rattle.protocol.specs.Fresh.{fresh}
+use Rattle.protocol.specs.Fresh.{smallest, fresh}
 use Rattle.protocol.specs.Routing.{inRing, responsible, covers, onward, route}
 use Rattle.protocol.specs.Kinds as kinds
 use Rattle.protocol.specs.Step as step
 use Rattle.protocol.specs.Step.{Result, refused, accepted}
-use Rattle.protocol.specs.Calls.{written, freshCall}
+use Rattle.protocol.specs.Calls.{written, freshByCall}
 use Rattle.protocol.specs.Answers.{answerWords}
-use Rattle.protocol.specs.Frames.{isDigit, digitValue, read2, read4, read8, founding, identifierAt, identifiers, command, frame, digitOf, print2, print4, print8, fieldsText, outcomeText, line, answering, frameCall, lineCall}
+use Rattle.protocol.specs.Frames.{isDigit, digitValue, read2, read4, read8, founding, identifierAt, identifiers, command, frame, digitOf, print2, print4, print8, refusalText, fieldsText, outcomeText, line, answering, frameCall, lineCall}
 use Rattle.protocol.specs.Ringrun.{linesOf, textOf, answers, ringrun}
 use Rattle.layout.specs.Words.{drop-words}
 use Rattle.layout.specs.Form.{Form}
@@ -29,7 +29,7 @@ use Rattle.atomicity.specs.Preserved.{Leaves, leaves-form, step-form, fr
 use Rattle.atomicity.specs.Demand3.{Call, present, called}
 use Rattle.atomicity.specs.Record.{fresh-gives}
 use Rattle.atomicity.specs.Engines.{call-is}
-use Rattle.atomicity.specs.Probes.{Probe, interval, ring, text, outcomes, lines, printed, Passes, ask, join, leave, deliver, quiet, eightIds, eightCalls, eightOutcomes, intervals, refusals, eightLines, eightTexts, listing, starred, listingInput, listingOutput}
+use Rattle.atomicity.specs.Probes.{Probe, interval, ring, ringBy, text, outcomes, lines, printed, Passes, ask, join, leave, deliver, quiet, eightIds, eightCalls, eightOutcomes, intervals, refusals, eightLines, eightTexts, listing, starred, swapped, asks, namedOutcomes, swappedLines, swappedTexts, foundings, listingInput, listingOutput}
 
 -- The outcomes on the state: these are computed.
 said : Result → Outcome
@@ -78,7 +78,7 @@ shown-calls w (l ∷ more) (c ∷ calls) r =
     ap (λ z. textOf (frameCall w l z .printed) ∷ printed (frameCall w l z .slice) more) (r .0)
     ∙ ap (λ z. shown (called present w c .outcome) ∷ z) (shown-calls (called present w c .slice) more calls (r .1))
 
--- The first line founds the ring, and the others are these calls.
+-- The first line founds the ring, by hub 0, and the others are these calls.
 pub record Told (input output : List (List ℕ)) : Type 0 where
   ids : List ℕ
   calls : List Call
@@ -91,38 +91,41 @@ pub record Told (input output : List (List ℕ)) : Type 0 where
   reads : Read more calls
   prints : map shown said ≡ output
 
-told-printed : (slice : List ℕ) (input output : List (List ℕ)) (t : Told input output) → lines slice (t .ids) (t .calls) ≡ t .said → printed slice input ≡ output
+told-printed : (slice : List ℕ) (input output : List (List ℕ)) (t : Told input output) → lines (freshByCall slice (t .ids) 0) (t .calls) ≡ t .said → printed slice input ≡ output
 unfolding printed lineCall frameCall answering
 told-printed slice input output t e =
     ap (printed slice) (t .lines)
     ∙ ap (λ z. textOf (frameCall slice (t .first) z .printed) ∷ printed (frameCall slice (t .first) z .slice) (t .more)) (t .founds)
-    ∙ ap (λ z. shown (freshCall slice z .outcome) ∷ printed (freshCall slice z .slice) (t .more)) (t .names)
-    ∙ ap (λ z. shown (freshCall slice (t .ids) .outcome) ∷ z) (shown-calls (freshCall slice (t .ids) .slice) (t .more) (t .calls) (t .reads))
+    ∙ ap (λ z. shown (freshByCall slice z 0 .outcome) ∷ printed (freshByCall slice z 0 .slice) (t .more)) (t .names)
+    ∙ ap (λ z. shown (freshByCall slice (t .ids) 0 .outcome) ∷ z) (shown-calls (freshByCall slice (t .ids) 0 .slice) (t .more) (t .calls) (t .reads))
     ∙ ap (map shown) e
     ∙ t .prints
 
 -- What is computed for a probe, and the premises of a ring's.
-abbrev Rung : List ℕ → List Call → List Outcome → Type 0
-Rung ids calls said =
-    T (leb 1 (length ids)) × T (leb (length ids) mostNodes) × T (distinct ids) × (quiet ∷ outcomesOf (fresh ids) calls ≡ said)
+abbrev Rung : List ℕ → ℕ → List Call → List Outcome → Type 0
+Rung ids founder calls said =
+    T (ltb founder (length ids)) × T (leb (length ids) mostNodes) × T (distinct ids) × (quiet ∷ outcomesOf (fresh ids founder) calls ≡ said)
 
 abbrev Computes : Probe → Type 0
 Computes (interval a b v is) = within round a b v ≡ is
-Computes (ring ids calls said) = Rung ids calls said
-Computes (text input output) = (t : Told (map codes input) (map codes output)) × Rung (t .ids) (t .calls) (t .said)
+Computes (ring ids calls said) = Rung ids (smallest ids) calls said
+Computes (ringBy ids founder calls said) = Rung ids founder calls said
+Computes (text input output) = (t : Told (map codes input) (map codes output)) × Rung (t .ids) 0 (t .calls) (t .said)
 
 -- A ring's lines are those of its fresh state.
-rung : (ids : List ℕ) (calls : List Call) (said : List Outcome) → Rung ids calls said → Passes (ring ids calls said)
-rung ids calls said k = λ slice l.
-    ap (λ z. z .outcome ∷ outcomes (z .slice) calls) (fresh-gives slice ids l (k .0) (k .1) (k .2))
+rung : (ids : List ℕ) (founder : ℕ) (calls : List Call) (said : List Outcome) → Rung ids founder calls said → Passes (ringBy ids founder calls said)
+rung ids founder calls said k = λ slice l.
+    ap (λ z. z .outcome ∷ outcomes (z .slice) calls) (fresh-gives slice ids founder l (k .0) (k .1) (k .2))
     ∙ ap (λ z. quiet ∷ z)
-    (outcomes-are (drop recordSize slice) (fresh ids) (fresh-form ids (leb→le 1 (length ids) (k .0)) (leb→le (length ids) mostNodes (k .1)) (says-distinct ids .to (k .2))) calls)
+    (outcomes-are (drop recordSize slice) (fresh ids founder)
+    (fresh-form ids founder (ltb→lt founder (length ids) (k .0)) (leb→le (length ids) mostNodes (k .1)) (says-distinct ids .to (k .2))) calls)
     ∙ k .3
 
 passes : (p : Probe) → Computes p → Passes p
 passes (interval a b v is) e = e
-passes (ring ids calls said) k = rung ids calls said k
-passes (text input output) k = λ slice l. told-printed slice (map codes input) (map codes output) (k .0) (rung (k .0 .ids) (k .0 .calls) (k .0 .said) (k .1) slice l)
+passes (ring ids calls said) k = rung ids (smallest ids) calls said k
+passes (ringBy ids founder calls said) k = rung ids founder calls said k
+passes (text input output) k = λ slice l. told-printed slice (map codes input) (map codes output) (k .0) (rung (k .0 .ids) 0 (k .0 .calls) (k .0 .said) (k .1) slice l)
 
 all-pass : (l : List Probe) → All Computes l → All Passes l
 all-pass [] k = tt
@@ -133,12 +136,29 @@ unfolding within dist
 intervals-computed = (refl, (refl, (refl, (refl, (refl, (refl, (refl, (refl, (refl, tt)))))))))
 
 refusals-computed : All Computes refusals
-unfolding outcomesOf said left fresh step.step step.ask step.join step.leave step.onLink step.deliver require step.room if_then_else_ first inRing distinct every
-refusals-computed = ((tt, tt, tt, refl), ((tt, tt, tt, refl), ((tt, tt, tt, refl), ((tt, tt, tt, refl), tt))))
+unfolding outcomesOf said left smallest fresh step.step step.ask step.join step.leave step.onLink step.deliver require step.room if_then_else_ first inRing distinct every
+refusals-computed = (
+  (tt, tt, tt, refl),
+  (
+    (tt, tt, tt, refl),
+    (
+      (tt, tt, tt, refl),
+      (
+        (tt, tt, tt, refl),
+        ((tt, tt, tt, refl), ((tt, tt, tt, refl), ((tt, tt, tt, refl), ((tt, tt, tt, refl), tt)))),
+      ),
+    ),
+  ),
+)
 
-eight-outcomes : Rung eightIds eightCalls eightOutcomes
+eight-outcomes : Rung eightIds 0 eightCalls eightOutcomes
 unfolding outcomesOf said left fresh step.step step.ask step.asking step.join step.onLink step.delivered step.deliver require step.conclude step.room if_then_else_ first within dist inRing responsible covers onward route kinds.grown kinds.lookupRouted kinds.lookup kinds.joinRouted kinds.join kinds.joinPoint kinds.newSucc kinds.handle distinct every
 eight-outcomes = (tt, tt, tt, refl)
+
+-- hub 0 has the smaller identifier there
+eight-none-named : Rung eightIds (smallest eightIds) eightCalls eightOutcomes
+unfolding smallest first every if_then_else_
+eight-none-named = eight-outcomes
 
 eight-lines : Told (map codes eightLines) (map codes eightTexts)
 unfolding textOf codes frame founding command identifiers identifierAt isDigit digitValue read2 read4 read8 require if_then_else_ every table line outcomeText fieldsText answerWords digitOf print2 print4 print8
@@ -155,12 +175,31 @@ eight-lines = record {
   prints = refl;
 }
 
+swapped-lines : Told (map codes swappedLines) (map codes swappedTexts)
+unfolding textOf codes frame founding command identifiers identifierAt isDigit digitValue read2 read4 read8 require if_then_else_ every table line refusalText outcomeText fieldsText answerWords digitOf print2 print4 print8
+swapped-lines = record {
+  ids = swapped;
+  calls = asks;
+  said = namedOutcomes;
+  first = codes "F0000000C800000064";
+  more = map codes (lib.ListN.drop 1 swappedLines);
+  lines = refl;
+  founds = refl;
+  names = refl;
+  reads = (refl, (refl, tt));
+  prints = refl;
+}
+
+foundings-computed : All Computes foundings
+unfolding outcomesOf said left smallest fresh step.step step.ask step.asking require step.room if_then_else_ first within dist inRing responsible covers onward route distinct every swapped-lines
+foundings-computed = ((tt, tt, tt, refl), ((tt, tt, tt, refl), ((swapped-lines, (tt, tt, tt, refl)), tt)))
+
 -- All of them.
-pub probes : All Passes starred
+pub probes : All Passes (starred ++ foundings)
 unfolding eight-lines
 probes =
-    all-pass starred (all-append Computes intervals (refusals ++ listing) intervals-computed
-    (all-append Computes refusals listing refusals-computed (eight-outcomes, ((eight-lines, eight-outcomes), tt))))
+    all-pass (starred ++ foundings) (all-append Computes starred foundings (all-append Computes intervals (refusals ++ listing) intervals-computed
+    (all-append Computes refusals listing refusals-computed (eight-none-named, (eight-outcomes, ((eight-lines, eight-outcomes), tt))))) foundings-computed)
 
 -- The listing through the whole program.
 answers-printed : (w : List ℕ) (lines : List (List ℕ)) → answers w lines ≡ flat (λ l. l) (printed w lines)

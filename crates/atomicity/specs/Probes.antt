@@ -1,5 +1,5 @@
--- Document 01's starred probes, as one list, the listing's last line as document 02 (2026-01) has it. That each of them passes is `probes` in
--- Probed.antt.
+-- Document 01's starred probes, as one list, the listing's last line as document 02 (2026-01) has it and their rings founded by either form of
+-- fresh (2026-02); and what a ring says that hub 0 does not found. That each of them passes is `probes` in Probed.antt.
 use mathlib.Core.Path.{_≡_}
 use mathlib.Core.Bool.{Bool, true, false}
 use mathlib.Core.List.{List, [], _∷_, _++_, map}
@@ -14,7 +14,7 @@ use Rattle.protocol.specs.declared.Outcome.{Outcome}
 use Rattle.protocol.specs.declared.Outcome.the-variants.{Refused, Answered}
 use Rattle.protocol.specs.Names.{LAST-HUB, NO-MESSAGE, NOT-IN-RING}
 use Rattle.protocol.specs.Record.{round, recordSize}
-use Rattle.protocol.specs.Calls.{freshCall}
+use Rattle.protocol.specs.Calls.{Called, freshCall, freshByCall}
 use Rattle.protocol.specs.Frames.{lineCall}
 use Rattle.protocol.specs.Ringrun.{textOf}
 use Rattle.atomicity.specs.Demand3.{Call, present, called}
@@ -24,8 +24,8 @@ unfoldable pub outcomes : List ℕ → List Call → List Outcome
 outcomes w [] = []
 outcomes w (c ∷ calls) = called present w c .outcome ∷ outcomes (called present w c .slice) calls
 
-abbrev pub lines : List ℕ → List ℕ → List Call → List Outcome
-lines slice ids calls = freshCall slice ids .outcome ∷ outcomes (freshCall slice ids .slice) calls
+abbrev pub lines : Called → List Call → List Outcome
+lines begun calls = begun .outcome ∷ outcomes (begun .slice) calls
 
 -- What is printed for each line of a list, its LF with it.
 unfoldable pub printed : List ℕ → List (List ℕ) → List (List ℕ)
@@ -35,15 +35,17 @@ printed w (l ∷ more) = textOf (lineCall w l .printed) ∷ printed (lineCall w 
 pub data Probe : Type 0 where
   -- whether v is in (a, b]
   interval : (a b v : ℕ) → Bool → Probe
-  -- what a ring of these identifiers says, line by line
+  -- what a ring of these identifiers says, line by line, where no founder is named, and where this one is
   ring : (ids : List ℕ) → List Call → List Outcome → Probe
+  ringBy : (ids : List ℕ) (founder : ℕ) → List Call → List Outcome → Probe
   -- what is printed for these lines
   text : List String → List String → Probe
 
 -- In any slice that is long enough.
 abbrev pub Passes : Probe → Type 0
 Passes (interval a b v is) = within round a b v ≡ is
-Passes (ring ids calls said) = (slice : List ℕ) → recordSize ≤ length slice → lines slice ids calls ≡ said
+Passes (ring ids calls said) = (slice : List ℕ) → recordSize ≤ length slice → lines (freshCall slice ids) calls ≡ said
+Passes (ringBy ids founder calls said) = (slice : List ℕ) → recordSize ≤ length slice → lines (freshByCall slice ids founder) calls ≡ said
 Passes (text input output) = (slice : List ℕ) → recordSize ≤ length slice → printed slice (map codes input) ≡ map codes output
 
 abbrev pub ask : ℕ → ℕ → Call
@@ -78,14 +80,17 @@ intervals =
     ∷ interval 7 7 7 true
     ∷ []
 
--- Last hub leaves: 8. Empty link: 9. Ask at an outside hub: 5. Outside hub joins through itself: 5.
-abbrev pub refusals : List Probe
-refusals =
-    ring (100 ∷ []) (leave 0 ∷ []) (quiet ∷ Refused LAST-HUB ∷ [])
-    ∷ ring (100 ∷ []) (deliver 0 0 ∷ []) (quiet ∷ Refused NO-MESSAGE ∷ [])
-    ∷ ring (100 ∷ 200 ∷ []) (ask 1 150 ∷ []) (quiet ∷ Refused NOT-IN-RING ∷ [])
-    ∷ ring (100 ∷ 200 ∷ []) (join 1 1 ∷ []) (quiet ∷ Refused NOT-IN-RING ∷ [])
+-- Last hub leaves: 8. Empty link: 9. Ask at an outside hub: 5. Outside hub joins through itself: 5. Hub 0 founds, by its identifier or by name.
+abbrev pub refused : (List ℕ → List Call → List Outcome → Probe) → List Probe
+refused begun =
+    begun (100 ∷ []) (leave 0 ∷ []) (quiet ∷ Refused LAST-HUB ∷ [])
+    ∷ begun (100 ∷ []) (deliver 0 0 ∷ []) (quiet ∷ Refused NO-MESSAGE ∷ [])
+    ∷ begun (100 ∷ 200 ∷ []) (ask 1 150 ∷ []) (quiet ∷ Refused NOT-IN-RING ∷ [])
+    ∷ begun (100 ∷ 200 ∷ []) (join 1 1 ∷ []) (quiet ∷ Refused NOT-IN-RING ∷ [])
     ∷ []
+
+abbrev pub refusals : List Probe
+refusals = refused ring ++ refused (λ ids. ringBy ids 0)
 
 -- The eight lines: what their calls give, and what is read and printed.
 abbrev pub eightLines : List String
@@ -113,10 +118,34 @@ eightTexts =
     ∷ []
 
 abbrev pub listing : List Probe
-listing = ring eightIds eightCalls eightOutcomes ∷ text eightLines eightTexts ∷ []
+listing = ring eightIds eightCalls eightOutcomes ∷ ringBy eightIds 0 eightCalls eightOutcomes ∷ text eightLines eightTexts ∷ []
 
 abbrev pub starred : List Probe
 starred = intervals ++ (refusals ++ listing)
+
+-- Hub 1 has the smaller identifier: it founds where nobody is named, and then hub 0 is outside. Where hub 0 is named, it is the other way
+-- round; and a founding line names hub 0.
+abbrev pub swapped : List ℕ
+swapped = 200 ∷ 100 ∷ []
+
+abbrev pub asks : List Call
+asks = ask 0 150 ∷ ask 1 150 ∷ []
+
+abbrev pub namedOutcomes : List Outcome
+namedOutcomes = quiet ∷ Answered (Found 0 150 0 0) ∷ Refused NOT-IN-RING ∷ []
+
+abbrev pub swappedLines : List String
+swappedLines = "F0000000C800000064" ∷ "000000000000000096" ∷ "000000000100000096" ∷ []
+
+abbrev pub swappedTexts : List String
+swappedTexts = "000000000000000000000000\n" ∷ "010000000096000000000000\n" ∷ "EE05\n" ∷ []
+
+abbrev pub foundings : List Probe
+foundings =
+    ring swapped asks (quiet ∷ Refused NOT-IN-RING ∷ Answered (Found 1 150 0 0) ∷ [])
+    ∷ ringBy swapped 0 asks namedOutcomes
+    ∷ text swappedLines swappedTexts
+    ∷ []
 
 -- The listing as a whole: the input, each of its lines ended by LF (byte 10), and the output.
 abbrev pub listingInput : List ℕ

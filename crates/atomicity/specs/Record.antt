@@ -5,7 +5,7 @@ use mathlib.Core.Bool.{true}
 use mathlib.Core.List.{List, _++_}
 use Prim.Native.Nat.{ℕ, _≤_}
 use native.Mathlib.Omega.{arith}
-use lib.Dec.{T, leb, leb→le}
+use lib.Dec.{T, leb, ltb, leb→le, ltb→lt}
 use lib.ListN.{length, drop, length-append, length-drop}
 use Rattle.lists.specs.Basics.{distinct}
 use Rattle.lists.specs.Choice.{tested}
@@ -18,7 +18,7 @@ use Rattle.protocol.specs.Record.{mostNodes, recordSize, read, words}
 use Rattle.protocol.specs.WellFormed.{wellFormed}
 use Rattle.protocol.specs.Fresh.{fresh}
 use Rattle.protocol.specs.Step.{Result, refused, accepted, step}
-use Rattle.protocol.specs.Calls.{Called, long, onRecord, written, turnedDown, stepCall, freshCall}
+use Rattle.protocol.specs.Calls.{Called, long, onRecord, written, turnedDown, stepCall, freshByCall}
 use Rattle.layout.specs.Words.{words-read, drop-words, length-words}
 use Rattle.layout.specs.Form.{tidy, form-of, well-formed-words}
 use Rattle.layout.specs.Questions.{fresh-cases, fresh-founds}
@@ -62,20 +62,21 @@ step-sound w operation x y =
     (λ t. tested (Sound w) (wellFormed w) _ _ (turned-sound w 2)
     (λ ok. written-sound w (step (read w) operation x y) (leb→le recordSize (length w) t) (step-form (read w) (form-of w ok) operation x y)))
 
--- So does an accepted fresh.
-pub fresh-sound : (w ids : List ℕ) → Sound w (freshCall w ids)
-fresh-sound w ids =
-    fresh-cases w ids (Sound w) (λ k l. turned-sound w k)
-    (λ a. written-sound w (accepted Quiet (fresh ids)) (a .long)
-    (leaves-accepted Quiet (fresh ids) (fresh-form ids (a .some) (a .few) (says-distinct ids .to (a .differ)))))
+-- So does an accepted fresh, whoever founds.
+pub fresh-sound : (w ids : List ℕ) (founder : ℕ) → Sound w (freshByCall w ids founder)
+fresh-sound w ids founder =
+    fresh-cases w ids founder (Sound w) (λ k l. turned-sound w k)
+    (λ a. written-sound w (accepted Quiet (fresh ids founder)) (a .long)
+    (leaves-accepted Quiet (fresh ids founder) (fresh-form ids founder (a .below) (a .few) (says-distinct ids .to (a .differ)))))
 
 -- On well-formed records words and state are inverse. (What is written is read: `read-words` of `layout`.)
 pub words-of-read : (w : List ℕ) → recordSize ≤ length w → wellFormed w ≡ true → words (read w) ++ drop recordSize w ≡ w
 words-of-read w l ok = words-read w (tidy w (true-T _ ok) l)
 
 -- What a fresh call of a good list of identifiers gives.
-pub fresh-gives : (w ids : List ℕ) → recordSize ≤ length w → T (leb 1 (length ids)) → T (leb (length ids) mostNodes) → T (distinct ids)
-    → freshCall w ids ≡ record { outcome = Answered Quiet; slice = words (fresh ids) ++ drop recordSize w }
+pub fresh-gives : (w ids : List ℕ) (founder : ℕ) → recordSize ≤ length w → T (ltb founder (length ids)) → T (leb (length ids) mostNodes) → T (distinct ids)
+    → freshByCall w ids founder ≡ record { outcome = Answered Quiet; slice = words (fresh ids founder) ++ drop recordSize w }
 unfolding written
-fresh-gives w ids l some few differ =
-    fresh-founds w ids (record { long = l; some = leb→le 1 (length ids) some; few = leb→le (length ids) mostNodes few; differ = differ })
+fresh-gives w ids founder l below few differ =
+    let b = ltb→lt founder (length ids) below in
+    fresh-founds w ids founder (record { long = l; some = omega arith; few = leb→le (length ids) mostNodes few; differ = differ; below = b })

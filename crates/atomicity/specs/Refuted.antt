@@ -51,7 +51,7 @@ hub-of nobody = 2
 hub-of (node hub) = hub
 
 -- (a) Both hubs are alone in a ring of their own, and each holds every number.
-pub two-holders : Claims present two [] (ring (alone 0 100) (alone 1 200) []) → ⊥
+pub two-holders : Claims present two 0 [] (ring (alone 0 100) (alone 1 200) []) → ⊥
 unfolding holds responsible covers within dist
 two-holders claims = let e = claims .single 150 0 1 (omega arith) (holding 0 refl) (holding 1 refl) in omega (arith, e)
   where
@@ -61,32 +61,32 @@ two-holders claims = let e = claims .single 150 0 1 (omega arith) (holding 0 ref
     holding : (hub : ℕ) → holds s hub 150 ≡ true → holds (read (ring (alone 0 100) (alone 1 200) [])) hub 150 ≡ true
     holding hub e = subst (λ z. holds z hub 150 ≡ true) (sym (same (alone 0 100) (alone 1 200) [])) e
 
--- Hub 1 holds every number, and was never taken in.
-pub holder-no-member : Claims present two [] (ring (outside 100) (alone 1 200) []) → ⊥
+-- Hub 1 holds every number, and was never taken in: the ledger starts with the founder, hub 0, alone.
+pub holder-no-member : Claims present two 0 [] (ring (outside 100) (alone 1 200) []) → ⊥
 unfolding holds responsible covers within dist ownerAmong nearer membersAfter hub-of
 holder-no-member claims =
     let e = claims .owner 150 1 (omega arith) (subst (λ z. holds z 1 150 ≡ true) (sym (same (outside 100) (alone 1 200) [])) refl) in
     omega (arith, ap hub-of e)
 
 -- (b) Hub 1 answers before it is taken in: the ledger at that call has hub 0 alone, though the ledger after the list has hub 1 too.
-pub answered-too-early : (w : List ℕ) → Claims present two (asked (Answered Quiet) ∷ arrived (Answered (Found 1 150 0 1)) ∷ arrived (Answered (Entered 1)) ∷ []) w → ⊥
+pub answered-too-early : (w : List ℕ) → Claims present two 0 (asked (Answered Quiet) ∷ arrived (Answered (Found 1 150 0 1)) ∷ arrived (Answered (Entered 1)) ∷ []) w → ⊥
 unfolding ownerAmong nearer membersAfter afterOutcome hub-of
 answered-too-early w claims =
     let e = claims .found (asked (Answered Quiet) ∷ []) (arrived (Answered (Found 1 150 0 1))) (arrived (Answered (Entered 1)) ∷ []) refl 1 150 0 1 refl in
     omega (arith, ap hub-of e)
 
 -- (c) A question was accepted, and neither answered nor does it wait.
-pub question-lost : Claims present two (asked (Answered Quiet) ∷ []) (ring (alone 0 100) (outside 200) []) → ⊥
+pub question-lost : Claims present two 0 (asked (Answered Quiet) ∷ []) (ring (alone 0 100) (outside 200) []) → ⊥
 unfolding questionsAccepted foundTickets acceptedAsk ticketOf waiting if_then_else_
 question-lost claims = omega (arith, claims .questions, ap (λ z. waiting (z .messages)) (same (alone 0 100) (outside 200) []))
 
 -- A question was answered that nobody asked.
-pub question-invented : Claims present two (arrived (Answered (Found 0 150 0 1)) ∷ []) (ring (alone 0 100) (outside 200) []) → ⊥
+pub question-invented : Claims present two 0 (arrived (Answered (Found 0 150 0 1)) ∷ []) (ring (alone 0 100) (outside 200) []) → ⊥
 unfolding questionsAccepted foundTickets acceptedAsk ticketOf waiting if_then_else_
 question-invented claims = omega (arith, claims .questions, ap (λ z. waiting (z .messages)) (same (alone 0 100) (outside 200) []))
 
 -- (d) The question with ticket 7 was answered twice.
-pub answered-twice : (w : List ℕ) → Claims present two (arrived (Answered (Found 0 150 7 1)) ∷ arrived (Answered (Found 0 150 7 2)) ∷ []) w → ⊥
+pub answered-twice : (w : List ℕ) → Claims present two 0 (arrived (Answered (Found 0 150 7 1)) ∷ arrived (Answered (Found 0 150 7 2)) ∷ []) w → ⊥
 unfolding foundTickets ticketOf
 answered-twice w claims = omega (arith, claims .once 7, ind-same 7)
 
@@ -103,12 +103,12 @@ unfolding written step deliver delivered onLink first handle lookup inRing concl
 refuses =
     ap (λ z. z .outcome) (call-is stranded [] (record { operation = 3; x = 0; y = 1 }) (tested-form stranded (omega arith) (omega arith) (omega arith) well-formed))
 
-pub question-stranded : (events : List Event) → Claims present two events (words stranded ++ []) → ⊥
+pub question-stranded : (events : List Event) → Claims present two 0 events (words stranded ++ []) → ⊥
 question-stranded events claims =
     claims .next (question 0 1 150 0 0)
     (subst (λ z. Mem (question 0 1 150 0 0) (z .messages)) (sym (read-words stranded [] (omega arith))) (inl refl)) NOT-EXPECTED refuses
 
 -- One message waits in a record that is cut short: every call is refused.
-pub record-cut : (events : List Event) → Claims present two events (1 ∷ 1 ∷ 1 ∷ 0 ∷ []) → ⊥
+pub record-cut : (events : List Event) → Claims present two 0 events (1 ∷ 1 ∷ 1 ∷ 0 ∷ []) → ⊥
 unfolding read table stepCall onRecord long require if_then_else_
 record-cut events claims = claims .next (record { kind = 0; from = 0; to = 0; a = 0; b = 0; hops = 0 }) (inl refl) RECORD-SHORT refl

@@ -3,7 +3,7 @@ use mathlib.Core.Path.{_≡_, refl, sym, _∙_, ap, subst}
 use mathlib.Core.Logic.{_⊎_, inl, inr, _≢_}
 use mathlib.Core.Bool.{Bool, true, false, _&&_}
 use mathlib.Core.List.{List, [], _∷_, _++_, map, map-append}
-use Prim.Native.Nat.{ℕ, suc, _+_, _≤_, _<_}
+use Prim.Native.Nat.{ℕ, suc, _+_, _<_}
 use native.Mathlib.Decide.{ℕ-discrete}
 use native.Mathlib.Nat.{add-zero}
 use native.Mathlib.Omega.{arith}
@@ -18,7 +18,7 @@ use Rattle.lists.specs.Tests.{and-left, and-right, and-both, →eqb, true-T, T-
 use Rattle.protocol.specs.declared.Row.{Row}
 use Rattle.protocol.specs.Names.{INSIDE, OUTSIDE}
 use Rattle.protocol.specs.Record.{round, State, count, row, identifier, message, noMessage, outside, withoutMessage}
-use Rattle.protocol.specs.Fresh.{founder, alone, foundedBy, fresh}
+use Rattle.protocol.specs.Fresh.{alone, foundedBy, fresh}
 use Rattle.protocol.specs.Kinds.{handle}
 use Rattle.protocol.specs.Step as step
 use Rattle.protocol.specs.Step.{Result, refused, accepted, conclude, onLink, oldest, delivered}
@@ -221,10 +221,10 @@ module _ (ids : List ℕ) (f : ℕ) (lf : f < length ids) where
   abbrev name : ℕ → ℕ
   name h = getD ids h 0
 
-  row-f : rowOf rows f ≡ alone f (name f)
+  pub row-f : rowOf rows f ≡ alone f (name f)
   row-f = getD-set-same (map outside ids) f (alone f (name f)) (outside 0) (omega (arith, length-map ids outside))
 
-  row-off : (h : ℕ) → h ≢ f → rowOf rows h ≡ outside (name h)
+  pub row-off : (h : ℕ) → h ≢ f → rowOf rows h ≡ outside (name h)
   row-off h ne = getD-set-other (map outside ids) f h (alone f (name f)) (outside 0) ne ∙ List·getD-map outside ids h 0
 
   led-off : (h : ℕ) → h ≢ f → mark (f ∷ []) h ≡ 0
@@ -247,6 +247,6 @@ module _ (ids : List ℕ) (f : ℕ) (lf : f < length ids) where
   }
 
 -- The fresh ring is good, with its founder alone in the ledger.
-pub fresh-good : (ids : List ℕ) → 1 ≤ length ids → Good (λ h. getD ids h 0) (length ids) (fresh ids) (foundingMembers ids) []
+pub fresh-good : (ids : List ℕ) (f : ℕ) → f < length ids → Good (λ h. getD ids h 0) (length ids) (fresh ids f) (foundingMembers f) []
 unfolding fresh
-fresh-good ids some = founded-good ids (founder ids) (omega arith)
+fresh-good ids f below = founded-good ids f below

@@ -157,16 +157,16 @@ later w [] = refl
 later w (c ∷ calls) = later (called present w c .slice) calls ∙ step-sound w (c .operation) (c .x) (c .y) .0 .later
 
 -- Where the lent slice has words of 32 bits, so has every record that is reached in it.
-pub reached-words : {ids : List ℕ} {events : List Event} {w : List ℕ} (r : Founded present ids events w) → All Word (r .slice) → All Word w
+pub reached-words : {ids : List ℕ} {founder : ℕ} {events : List Event} {w : List ℕ} (r : Founded present ids founder events w) → All Word (r .slice) → All Word w
 unfolding fresh
-reached-words {ids} {events} {w} r lent =
+reached-words {ids} {founder} {events} {w} r lent =
     subst (All Word) (sym (k .is))
     (all-append Word (words s) (k .tail)
     (state-words s f (k .also) (names-small _ _ (k .ring .small) s _ _ (k .good)) (points-small _ _ (k .ring .small) s _ _ (k .good)))
     (subst (All Word) (sym tail) (all-drop Word recordSize (r .slice) lent)))
   where
-    k : Course ids present present-laws Few events w
-    k = reached-course ids Few (few-kept ids) (λ g. omega arith) events w (from-fresh r)
+    k : Course ids founder present present-laws Few events w
+    k = reached-course ids founder Few (few-kept ids) (λ g. omega arith) events w (from-fresh r)
 
     s : State
     s = k .state
@@ -179,4 +179,4 @@ reached-words {ids} {events} {w} r lent =
         sym (drop-words s (k .tail) (f .few) (f .short))
         ∙ ap (drop recordSize) (sym (k .is) ∙ r .is)
         ∙ later _ (r .calls)
-        ∙ fresh-sound (r .slice) ids .0 .later
+        ∙ fresh-sound (r .slice) ids founder .0 .later

@@ -111,7 +111,7 @@ module _ (ids : List ℕ) where
 
   -- What stands behind a record of a form, with these calls behind it: the words of a state that the form holds, and that is good.
   -- P is whatever else the calls keep, of the ledger and the state.
-  module _ (engine : Engine) (L : Laws engine) (P : List ℕ → State → Type 0) where
+  module _ (founder : ℕ) (engine : Engine) (L : Laws engine) (P : List ℕ → State → Type 0) where
     pub record Course (events : List Event) (w : List ℕ) : Type 0 where
       pub ring : Ring ids
       pub state : State
@@ -119,12 +119,12 @@ module _ (ids : List ℕ) where
       pub fits : L .Fits state
       pub is : w ≡ L .put state tail
       pub tickets : List ℕ
-      pub good : Good (λ h. getD ids h 0) (length ids) state (membersAfter (foundingMembers ids) events) tickets
-      pub also : P (membersAfter (foundingMembers ids) events) state
+      pub good : Good (λ h. getD ids h 0) (length ids) state (membersAfter (foundingMembers founder) events) tickets
+      pub also : P (membersAfter (foundingMembers founder) events) state
       pub count : state .asked ≡ questionsAccepted events
       pub each : (k : ℕ) → times tickets k ≡ times (foundTickets events) k
       pub all : length tickets ≡ length (foundTickets events)
-      pub named : Named (foundingMembers ids) events
+      pub named : Named (foundingMembers founder) events
 
   -- What holds after a step, refused or not, and that a form's steps keep it.
   abbrev pub Kept : (List ℕ → State → Type 0) → List ℕ → Result → Type 0
@@ -248,12 +248,12 @@ module _ (ids : List ℕ) (small : (h : ℕ) → getD ids h 0 < round) (inj : (a
         (subst (Fine id c members ks (s .asked) false) e (delivered-fine id small c inj s members ks G (m .from) (m .to) (waits m i)))
 
 -- One call more.
-module _ (ids : List ℕ) (engine : Engine) (L : Laws engine) (P : List ℕ → State → Type 0) (keeping : Keeps ids P) where
+module _ (ids : List ℕ) (founder : ℕ) (engine : Engine) (L : Laws engine) (P : List ℕ → State → Type 0) (keeping : Keeps ids P) where
   abbrev Way : List Event → List ℕ → Type 0
-  Way events w = Course ids engine L P events w
+  Way events w = Course ids founder engine L P events w
 
   abbrev after : List Event → List ℕ
-  after events = membersAfter (foundingMembers ids) events
+  after events = membersAfter (foundingMembers founder) events
 
   more : (events : List Event) (w : List ℕ) (r : Way events w) (k : Call) (o : Outcome) (s : State) (tail ks : List ℕ)
       → L .Fits s → Good (λ h. getD ids h 0) (length ids) s (afterOutcome (after events) o) ks → P (afterOutcome (after events) o) s
@@ -262,7 +262,7 @@ module _ (ids : List ℕ) (engine : Engine) (L : Laws engine) (P : List ℕ → 
       → Way (events ++ (record { call = k; outcome = o } ∷ [])) (L .put s tail)
   more events w r k o s tail ks f G p ea ek named =
       let e : Event = record { call = k; outcome = o } in
-      let m = members-last ids (foundingMembers ids) events e in
+      let m = members-last ids (foundingMembers founder) events e in
       let q = found-last ids events e in
       record {
         ring = r .ring;
@@ -283,7 +283,7 @@ module _ (ids : List ℕ) (engine : Engine) (L : Laws engine) (P : List ℕ → 
           r .each t,
         );
         all = omega (arith, ap length ek, ap length q, length-append (ticketOf o) (r .tickets), length-append (foundTickets events) (ticketOf o), r .all);
-        named = named-last ids (foundingMembers ids) events e (r .named) named;
+        named = named-last ids (foundingMembers founder) events e (r .named) named;
       }
 
   goes : (events : List Event) (w : List ℕ) → Way events w → (k : Call) → Word (k .y)
@@ -304,7 +304,7 @@ module _ (ids : List ℕ) (engine : Engine) (L : Laws engine) (P : List ℕ → 
       tail = r .tail
 
       members : List ℕ
-      members = membersAfter (foundingMembers ids) events
+      members = membersAfter (foundingMembers founder) events
 
       small : (h : ℕ) → getD ids h 0 < round
       small = r .ring .small
@@ -334,31 +334,31 @@ module _ (ids : List ℕ) (engine : Engine) (L : Laws engine) (P : List ℕ → 
       (runs (events ++ (e ∷ [])) (called engine w k .slice) (goes events w r k (t .0 .y)) calls (t .1))
 
   -- from a fresh ring
-  pub founded-course : (Ring ids → P (foundingMembers ids) (fresh ids)) → (events : List Event) (w : List ℕ) → Founded engine ids events w → Way events w
+  pub founded-course : (Ring ids → P (foundingMembers founder) (fresh ids founder)) → (events : List Event) (w : List ℕ) → Founded engine ids founder events w → Way events w
   unfolding membersAfter questionsAccepted foundTickets fresh
   founded-course start events w r =
       subst (λ z. Way z w) (sym (r .happened))
-      (subst (Way (history engine (engine .founds (r .slice) ids .slice) (r .calls))) (sym (r .is))
-      (runs [] (engine .founds (r .slice) ids .slice) begin (r .calls) (r .commands)))
+      (subst (Way (history engine (engine .founds (r .slice) ids founder .slice) (r .calls))) (sym (r .is))
+      (runs [] (engine .founds (r .slice) ids founder .slice) begin (r .calls) (r .commands)))
     where
-      k : Begun (L .put) ids (engine .founds (r .slice) ids .slice)
-      k = L .begins (r .slice) ids (r .accepted)
+      k : Begun (L .put) ids founder (engine .founds (r .slice) ids founder .slice)
+      k = L .begins (r .slice) ids founder (r .accepted)
 
       differ : Distinct ids
       differ = says-distinct ids .to (k .differ)
 
       ring : Ring ids
-      ring = record { some = k .some; few = k .few; differ = differ; small = words-small ids (r .identifiers); inj = distinct-apart ids differ }
+      ring = record { some = omega (arith, k .below); few = k .few; differ = differ; small = words-small ids (r .identifiers); inj = distinct-apart ids differ }
 
-      begin : Way [] (engine .founds (r .slice) ids .slice)
+      begin : Way [] (engine .founds (r .slice) ids founder .slice)
       begin = record {
         ring = ring;
-        state = fresh ids;
+        state = fresh ids founder;
         tail = k .tail;
-        fits = L .starts ids (fresh-form ids (k .some) (k .few) differ);
+        fits = L .starts ids founder (fresh-form ids founder (k .below) (k .few) differ);
         is = k .is;
         tickets = [];
-        good = fresh-good ids (k .some);
+        good = fresh-good ids founder (k .below);
         also = start ring;
         count = refl;
         each = λ t. refl;
@@ -367,10 +367,10 @@ module _ (ids : List ℕ) (engine : Engine) (L : Laws engine) (P : List ℕ → 
       }
 
 -- Every reached record.
-module _ (ids : List ℕ) (P : List ℕ → State → Type 0) (keeping : Keeps ids P)
-    (start : Ring ids → P (foundingMembers ids) (fresh ids)) where
-  pub reached-course : (events : List Event) (w : List ℕ) → Reached ids events w → Course ids present present-laws P events w
-  reached-course events w r = founded-course ids present present-laws P keeping start events w r
+module _ (ids : List ℕ) (founder : ℕ) (P : List ℕ → State → Type 0) (keeping : Keeps ids P)
+    (start : Ring ids → P (foundingMembers founder) (fresh ids founder)) where
+  pub reached-course : (events : List Event) (w : List ℕ) → Reached ids founder events w → Course ids founder present present-laws P events w
+  reached-course events w r = founded-course ids founder present present-laws P keeping start events w r
 
 -- The claims, of any course.
 module _ (ids : List ℕ) (engine : Engine) (L : Laws engine) where
@@ -381,12 +381,12 @@ module _ (ids : List ℕ) (engine : Engine) (L : Laws engine) where
   any-kept members (refused k) = tt
   any-kept members (went a s) = tt
 
-  claimed : (events : List Event) (w : List ℕ) → Course ids engine L Any events w → Claims engine ids events w
+  claimed : (founder : ℕ) (events : List Event) (w : List ℕ) → Course ids founder engine L Any events w → Claims engine ids founder events w
   unfolding step if_then_else_
-  claimed events w r = subst (Claims engine ids events) (sym (r .is)) (record {
+  claimed founder events w r = subst (Claims engine ids founder events) (sym (r .is)) (record {
     single = λ v h k lv p q. single ids small inj s members (r .tickets) (r .good) v h k lv (holds-of h v p) (holds-of k v q);
     owner = λ v h lv p. owner ids small inj s members (r .tickets) (r .good) v h lv (holds-of h v p);
-    found = λ before e after q. named-at ids (foundingMembers ids) before e after (subst (Named ids (foundingMembers ids)) q (r .named));
+    found = λ before e after q. named-at ids (foundingMembers founder) before e after (subst (Named ids (foundingMembers founder)) q (r .named));
     questions = omega (arith, r .count, r .all, questions ids small inj s members (r .tickets) (r .good), ap (λ z. waiting (z .messages)) same);
     once = λ k. omega (arith, r .each k, once ids small inj s members (r .tickets) (r .good) k);
     next = λ m i. next-call m (subst (λ z. Mem m (z .messages)) same i);
@@ -396,7 +396,7 @@ module _ (ids : List ℕ) (engine : Engine) (L : Laws engine) where
       s = r .state
 
       members : List ℕ
-      members = membersAfter (foundingMembers ids) events
+      members = membersAfter (foundingMembers founder) events
 
       small : (h : ℕ) → getD ids h 0 < round
       small = r .ring .small
@@ -421,6 +421,6 @@ module _ (ids : List ℕ) (engine : Engine) (L : Laws engine) where
 
 pub demand-3 : Demand3
 unfolding Demand3
-demand-3 ids events w r =
-    claimed ids present present-laws events w
-    (reached-course ids (λ m s. Unit {0}) (λ g s members ks f G p o x y l. any-kept ids present present-laws members (step s o x y)) (λ g. tt) events w r)
+demand-3 ids founder events w r =
+    claimed ids present present-laws founder events w
+    (reached-course ids founder (λ m s. Unit {0}) (λ g s members ks f G p o x y l. any-kept ids present present-laws members (step s o x y)) (λ g. tt) events w r)

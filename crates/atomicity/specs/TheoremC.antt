@@ -15,9 +15,9 @@ use Rattle.protocol.specs.Names.{RECORD-SHORT, NOT-WELL-FORMED, OUTPUT-SHORT}
 use Rattle.protocol.specs.Record.{read}
 use Rattle.protocol.specs.WellFormed.{wellFormed}
 use Rattle.protocol.specs.Step.{Result, refused, accepted, step}
-use Rattle.protocol.specs.Calls.{Called, long, onRecord, turnedDown, written, stepCall, freshCall}
+use Rattle.protocol.specs.Calls.{Called, long, onRecord, turnedDown, written, stepCall, freshByCall}
 use Rattle.protocol.specs.Answers.{refusal}
-use Rattle.protocol.specs.Bytes.{Byte, wordsOf, bytesAfter, CalledBytes, carried, stepBytes, freshCarried, freshBytes}
+use Rattle.protocol.specs.Bytes.{Byte, wordsOf, bytesAfter, CalledBytes, carried, stepBytes, freshCarried, freshByBytes}
 use Rattle.layout.specs.Bytes.{words-below, written-read}
 use Rattle.layout.specs.Questions.{fresh-cases}
 use Rattle.atomicity.specs.Demand3.{Call, ThreeWords, Event, Word, present, called, history, recordAfter, Founded, from-fresh, Claims, Demand3}
@@ -38,9 +38,9 @@ unfolding recordAfter
 record-last w [] c = refl
 record-last w (k ∷ calls) c = record-last (called present w k .slice) calls c
 
-pub one-more : {ids : List ℕ} {events : List Event} {w : List ℕ} → Founded present ids events w → (c : Call) → ThreeWords c
-    → Founded present ids (events ++ (record { call = c; outcome = called present w c .outcome } ∷ [])) (called present w c .slice)
-one-more {ids} {events} {w} r c t = record {
+pub one-more : {ids : List ℕ} {founder : ℕ} {events : List Event} {w : List ℕ} → Founded present ids founder events w → (c : Call) → ThreeWords c
+    → Founded present ids founder (events ++ (record { call = c; outcome = called present w c .outcome } ∷ [])) (called present w c .slice)
+one-more {ids} {founder} {events} {w} r c t = record {
   slice = r .slice;
   calls = r .calls ++ (c ∷ []);
   identifiers = r .identifiers;
@@ -48,9 +48,9 @@ one-more {ids} {events} {w} r c t = record {
   accepted = r .accepted;
   happened =
       ap (λ l. l ++ (record { call = c; outcome = called present w c .outcome } ∷ [])) (r .happened)
-      ∙ ap (λ z. history present (freshCall (r .slice) ids .slice) (r .calls) ++ (record { call = c; outcome = called present z c .outcome } ∷ [])) (r .is)
-      ∙ sym (history-last (freshCall (r .slice) ids .slice) (r .calls) c);
-  is = ap (λ z. called present z c .slice) (r .is) ∙ sym (record-last (freshCall (r .slice) ids .slice) (r .calls) c);
+      ∙ ap (λ z. history present (freshByCall (r .slice) ids founder .slice) (r .calls) ++ (record { call = c; outcome = called present z c .outcome } ∷ [])) (r .is)
+      ∙ sym (history-last (freshByCall (r .slice) ids founder .slice) (r .calls) c);
+  is = ap (λ z. called present z c .slice) (r .is) ∙ sym (record-last (freshByCall (r .slice) ids founder .slice) (r .calls) c);
 }
 
 -- What a call on the words leaves is what is read from the bytes that it leaves.
@@ -73,35 +73,35 @@ module _ (b : List ℕ) where
       tested Back (long (wordsOf b)) _ _ (turned-back RECORD-SHORT)
       (λ l. tested Back (wellFormed (wordsOf b)) _ _ (turned-back NOT-WELL-FORMED) (λ f. written-back (step (read (wordsOf b)) operation x y)))
 
-  fresh-back : (ids : List ℕ) → Back (freshCall (wordsOf b) ids)
-  fresh-back ids = fresh-cases (wordsOf b) ids Back (λ k l. turned-back k) (λ a. written-back (accepted Quiet _))
+  fresh-back : (ids : List ℕ) (founder : ℕ) → Back (freshByCall (wordsOf b) ids founder)
+  fresh-back ids founder = fresh-cases (wordsOf b) ids founder Back (λ k l. turned-back k) (λ a. written-back (accepted Quiet _))
 
 -- A record that was reached in a slice of 32-bit words; and bytes that carry one.
-abbrev Reach : List ℕ → List Event → List ℕ → Type 0
-Reach ids events w = (r : Founded present ids events w) × All Word (r .slice)
+abbrev Reach : List ℕ → ℕ → List Event → List ℕ → Type 0
+Reach ids founder events w = (r : Founded present ids founder events w) × All Word (r .slice)
 
-abbrev At : List ℕ → List Event → List ℕ → Type 0
-At ids events bytes = Reach ids events (wordsOf bytes)
+abbrev At : List ℕ → ℕ → List Event → List ℕ → Type 0
+At ids founder events bytes = Reach ids founder events (wordsOf bytes)
 
 -- A call that makes a step.
 abbrev event : List ℕ → Call → Event
 event b c = record { call = c; outcome = called present (wordsOf b) c .outcome }
 
-steps-on : (ids : List ℕ) (events : List Event) (b : List ℕ) → At ids events b → (c : Call) → ThreeWords c
-    → At ids (events ++ (event b c ∷ [])) (bytesAfter b (called present (wordsOf b) c .slice) (called present (wordsOf b) c .outcome))
+steps-on : (ids : List ℕ) (founder : ℕ) (events : List Event) (b : List ℕ) → At ids founder events b → (c : Call) → ThreeWords c
+    → At ids founder (events ++ (event b c ∷ [])) (bytesAfter b (called present (wordsOf b) c .slice) (called present (wordsOf b) c .outcome))
 unfolding Back one-more
-steps-on ids events b r c t =
+steps-on ids founder events b r c t =
     let next = one-more (r .0) c t in
-    subst (Reach ids (events ++ (event b c ∷ [])))
+    subst (Reach ids founder (events ++ (event b c ∷ [])))
     (sym (step-back b (c .operation) (c .x) (c .y) (reached-words next (r .1)) (step-sound (wordsOf b) (c .operation) (c .x) (c .y) .0 .size)))
     (next, r .1)
 
 -- Every list of calls.
-every-call : (ids : List ℕ) (events : List Event) (b : List ℕ) → At ids events b → (calls : List CCall) → All (λ c. ThreeWords (c .call)) calls
-    → At ids (events ++ stepsOf b calls) (bytesLeft b calls)
+every-call : (ids : List ℕ) (founder : ℕ) (events : List Event) (b : List ℕ) → At ids founder events b → (calls : List CCall) → All (λ c. ThreeWords (c .call)) calls
+    → At ids founder (events ++ stepsOf b calls) (bytesLeft b calls)
 unfolding stepsOf bytesLeft stepBytes carried require if_then_else_
-every-call ids events b r [] t = subst (λ l. At ids l b) (sym (append-nil events)) r
-every-call ids events b r (c ∷ calls) t = go (leb 20 (length (c .out))) (λ e d k. every-call ids e d k calls (t .1))
+every-call ids founder events b r [] t = subst (λ l. At ids founder l b) (sym (append-nil events)) r
+every-call ids founder events b r (c ∷ calls) t = go (leb 20 (length (c .out))) (λ e d k. every-call ids founder e d k calls (t .1))
   where
     stepped : CalledBytes
     stepped = carried b (c .out) (called present (wordsOf b) (c .call))
@@ -109,52 +109,52 @@ every-call ids events b r (c ∷ calls) t = go (leb 20 (length (c .out))) (λ e 
     left : Bool → List ℕ
     left z = require z (record { code = OUTPUT-SHORT; bytes = b; output = c .out }) stepped .bytes
 
-    go : (z : Bool) → ((e : List Event) (d : List ℕ) → At ids e d → At ids (e ++ stepsOf d calls) (bytesLeft d calls))
-        → At ids (events ++ (require z [] (event b (c .call) ∷ []) ++ stepsOf (left z) calls)) (bytesLeft (left z) calls)
+    go : (z : Bool) → ((e : List Event) (d : List ℕ) → At ids founder e d → At ids founder (e ++ stepsOf d calls) (bytesLeft d calls))
+        → At ids founder (events ++ (require z [] (event b (c .call) ∷ []) ++ stepsOf (left z) calls)) (bytesLeft (left z) calls)
     go true more =
-        subst (λ l. At ids l (bytesLeft (left true) calls)) (append-assoc events (event b (c .call) ∷ []) (stepsOf (left true) calls))
-        (more (events ++ (event b (c .call) ∷ [])) (left true) (steps-on ids events b r (c .call) (t .0)))
+        subst (λ l. At ids founder l (bytesLeft (left true) calls)) (append-assoc events (event b (c .call) ∷ []) (stepsOf (left true) calls))
+        (more (events ++ (event b (c .call) ∷ [])) (left true) (steps-on ids founder events b r (c .call) (t .0)))
     go false more = more events b r
 
 -- A fresh call that returns 0 was accepted.
-fresh-zero : (w ids : List ℕ) → refusal (freshCall w ids .outcome) ≡ 0 → freshCall w ids .outcome ≡ Answered Quiet
+fresh-zero : (w ids : List ℕ) (founder : ℕ) → refusal (freshByCall w ids founder .outcome) ≡ 0 → freshByCall w ids founder .outcome ≡ Answered Quiet
 unfolding refusal written
-fresh-zero w ids =
-    fresh-cases w ids (λ z. refusal (z .outcome) ≡ 0 → z .outcome ≡ Answered Quiet) (λ k l e. absurd (omega arith)) (λ a e. refl)
+fresh-zero w ids founder =
+    fresh-cases w ids founder (λ z. refusal (z .outcome) ≡ 0 → z .outcome ≡ Answered Quiet) (λ k l e. absurd (omega arith)) (λ a e. refl)
 
-begins : (lent ids : List ℕ) → All Byte lent → All Word ids → refusal (freshCall (wordsOf lent) ids .outcome) ≡ 0
-    → At ids [] (bytesAfter lent (freshCall (wordsOf lent) ids .slice) (freshCall (wordsOf lent) ids .outcome))
+begins : (lent ids : List ℕ) (founder : ℕ) → All Byte lent → All Word ids → refusal (freshByCall (wordsOf lent) ids founder .outcome) ≡ 0
+    → At ids founder [] (bytesAfter lent (freshByCall (wordsOf lent) ids founder .slice) (freshByCall (wordsOf lent) ids founder .outcome))
 unfolding Back history recordAfter
-begins lent ids bytes small zero =
-    subst (Reach ids [])
-    (sym (fresh-back lent ids (reached-words founded (words-below lent bytes)) (fresh-sound (wordsOf lent) ids .0 .size)))
+begins lent ids founder bytes small zero =
+    subst (Reach ids founder [])
+    (sym (fresh-back lent ids founder (reached-words founded (words-below lent bytes)) (fresh-sound (wordsOf lent) ids founder .0 .size)))
     (founded, words-below lent bytes)
   where
-    founded : Founded present ids [] (freshCall (wordsOf lent) ids .slice)
+    founded : Founded present ids founder [] (freshByCall (wordsOf lent) ids founder .slice)
     founded = record {
       slice = wordsOf lent;
       calls = [];
       identifiers = small;
       commands = tt;
-      accepted = fresh-zero (wordsOf lent) ids zero;
+      accepted = fresh-zero (wordsOf lent) ids founder zero;
       happened = refl;
       is = refl;
     }
 
 pub c-demand-3 : CDemand3
-unfolding CDemand3 Demand3 freshBytes freshCarried
-c-demand-3 ids events bytes r =
-    subst (λ l. Claims present ids l (wordsOf bytes)) (sym (r .happened))
-    (subst (λ b. Claims present ids (stepsOf first (r .calls)) (wordsOf b)) (sym (r .is))
-    (demand-3 ids _ _ (from-fresh (all .0))))
+unfolding CDemand3 Demand3 freshByBytes freshCarried
+c-demand-3 ids founder events bytes r =
+    subst (λ l. Claims present ids founder l (wordsOf bytes)) (sym (r .happened))
+    (subst (λ b. Claims present ids founder (stepsOf first (r .calls)) (wordsOf b)) (sym (r .is))
+    (demand-3 ids founder _ _ (from-fresh (all .0))))
   where
     first : List ℕ
-    first = freshBytes (r .lent) (r .identifiers) .bytes
+    first = freshByBytes (r .lent) (r .identifiers) founder .bytes
 
-    start : At ids [] first
+    start : At ids founder [] first
     start =
-        subst (λ i. At i [] first) (sym (r .names))
-        (begins (r .lent) (wordsOf (r .identifiers)) (r .lent-bytes) (words-below (r .identifiers) (r .identifier-bytes)) (r .accepted))
+        subst (λ i. At i founder [] first) (sym (r .names))
+        (begins (r .lent) (wordsOf (r .identifiers)) founder (r .lent-bytes) (words-below (r .identifiers) (r .identifier-bytes)) (r .accepted))
 
-    all : At ids (stepsOf first (r .calls)) (bytesLeft first (r .calls))
-    all = every-call ids [] first start (r .calls) (r .commands)
+    all : At ids founder (stepsOf first (r .calls)) (bytesLeft first (r .calls))
+    all = every-call ids founder [] first start (r .calls) (r .commands)

@@ -13,7 +13,7 @@ use Rattle.lists.specs.Tests.{true-T, says-and, says-le}
 use Rattle.lists.specs.Splice.{splice, splice-at, drop-pad}
 use Rattle.lists.specs.Blocks.{table-of, flat-append, length-flat}
 use Rattle.protocol.specs.Record.{form, mostNodes, rowSize, rowStart, recordSize, rowWords, unusedRowWords, unusedMessageWords, State, words, outside}
-use Rattle.protocol.specs.Fresh.{alone, fresh, founder}
+use Rattle.protocol.specs.Fresh.{alone, fresh}
 use Rattle.layout.specs.Words.{row-size}
 use Rattle.layout.specs.Edits.{rowPut, put-row-is}
 
@@ -90,14 +90,12 @@ unfounded-is ids t h =
     (ap (λ l. form ∷ n ∷ 0 ∷ 0 ∷ l) (regroup (outsiders ids) (replicate (unusedRowWords n) 0) (replicate (unusedMessageWords 0) 0) t))
 
 -- With the founder's row put last, it is a fresh ring.
-pub fresh-is : (ids w : List ℕ) → founder ids < length ids → length ids ≤ mostNodes
-    → rowPut (splice (set (set (replicate recordSize 0 ++ drop recordSize w) 0 form) 1 (length ids)) (rowStart 0) (outsiders ids)) (founder ids)
-    (alone (founder ids) (getD ids (founder ids) 0))
-    ≡ words (fresh ids) ++ drop recordSize w
+pub fresh-is : (ids w : List ℕ) (f : ℕ) → f < length ids → length ids ≤ mostNodes
+    → rowPut (splice (set (set (replicate recordSize 0 ++ drop recordSize w) 0 form) 1 (length ids)) (rowStart 0) (outsiders ids)) f (alone f (getD ids f 0))
+    ≡ words (fresh ids f) ++ drop recordSize w
 unfolding fresh
-fresh-is ids w l h =
-    rw (unfounded-is ids (drop recordSize w) h)
-    (put-row-is (unfounded ids) (drop recordSize w) (founder ids) (alone (founder ids) (getD ids (founder ids) 0)) (rw length-map l))
+fresh-is ids w f l h =
+    rw (unfounded-is ids (drop recordSize w) h) (put-row-is (unfounded ids) (drop recordSize w) f (alone f (getD ids f 0)) (rw length-map l))
 
 -- Question 13, of n identifiers, and question 14: what is merged is 0 where all of them differ.
 pub some-few : (n : ℕ) → (leb 1 n && leb n mostNodes) ≡ true → (1 ≤ n) × (n ≤ mostNodes)

@@ -1,15 +1,23 @@
-// Who founds a ring, and the row that it then has.
+// Who founds a ring where the caller names nobody, and the row that a founder has.
 use protocol::Row;
 use protocol::form::NONE;
 use protocol::states;
 ghost use mathlib.Core.Path.{_≡_};
-ghost use Rattle.protocol.specs.Fresh.{alone, founder};
+ghost use Rattle.protocol.specs.Fresh.{alone, smallest as smallestSpec};
 
-// Node 0, whatever the identifiers are.
-pub fn founding_node(identifiers: &[u32]) -> u32
-    ensures { λ r. ⌜ r ≡ founder (now (identifiers .entry)) ⌝ }
+// The node with the smallest identifier; 0 where there is none.
+pub fn smallest(identifiers: &[u32]) -> usize
+    ensures { λ r. ⌜ r ≡ smallestSpec (now (identifiers .entry)) ⌝ }
 {
-    0
+    let mut node = 0;
+    let mut i = 1;
+    while i < identifiers.len() {
+        if identifiers[i] < identifiers[node] {
+            node = i;
+        }
+        i += 1;
+    }
+    node
 }
 
 // The row of the only node of a ring, which comes before and after itself.

@@ -1,7 +1,8 @@
-// The fresh call: a ring is founded in a lent slice of words, from a list of identifiers.
+// The fresh calls: a ring is founded in a lent slice of words, from a list of identifiers.
 mod founder;
 mod writing;
 
+use crate::founder::smallest;
 use crate::writing::write_fresh;
 use lists::both;
 use protocol::Answer;
@@ -10,11 +11,25 @@ use protocol::form::RECORD_WORDS;
 use protocol::refusals;
 use wellformed::repeated;
 ghost use mathlib.Core.Path.{_≡_};
-ghost use Rattle.protocol.specs.Calls.{freshCall};
+ghost use Rattle.protocol.specs.Calls.{freshCall, freshByCall};
 
-// The first question that is answered no decides. All of them are asked before any word is written, so a refusal changes none.
+// A ring founded by the node with the smallest identifier, for callers who do not know which node is there first.
 pub fn fresh(w: &mut [u32], identifiers: &[u32]) -> Outcome
     ensures { λ r. ⌜ freshCall (now (w .entry)) (now (identifiers .entry)) ≡ record { outcome = r; slice = now (w .exit) } ⌝ }
+{
+    found(w, identifiers, smallest(identifiers))
+}
+
+// A ring founded by the node that the caller names.
+pub fn fresh_by(w: &mut [u32], identifiers: &[u32], founder: u32) -> Outcome
+    ensures { λ r. ⌜ freshByCall (now (w .entry)) (now (identifiers .entry)) founder ≡ record { outcome = r; slice = now (w .exit) } ⌝ }
+{
+    found(w, identifiers, founder as usize)
+}
+
+// The first question that is answered no decides. All of them are asked before any word is written, so a refusal changes none.
+fn found(w: &mut [u32], identifiers: &[u32], founder: usize) -> Outcome
+    ensures { λ r. ⌜ freshByCall (now (w .entry)) (now (identifiers .entry)) founder ≡ record { outcome = r; slice = now (w .exit) } ⌝ }
 {
     if w.len() < RECORD_WORDS {
         return Outcome::Refused(refusals::RECORD_SHORT);
@@ -25,6 +40,9 @@ pub fn fresh(w: &mut [u32], identifiers: &[u32]) -> Outcome
     if repeated(identifiers, identifiers.len()) != 0 {
         return Outcome::Refused(refusals::IDENTIFIER_TWICE);
     }
-    write_fresh(w, identifiers);
+    if identifiers.len() <= founder {
+        return Outcome::Refused(refusals::NO_FOUNDER);
+    }
+    write_fresh(w, identifiers, founder);
     Outcome::Answered(Answer::Quiet)
 }

@@ -1,12 +1,11 @@
 // The words of a fresh ring, written over whatever the slice came with.
 use crate::founder::alone_row;
-use crate::founder::founding_node;
 use protocol::form::FORM;
 use protocol::form::RECORD_WORDS;
 use record::put_row;
 ghost use mathlib.Core.Path.{_≡_};
 ghost use mathlib.Core.List.{_++_, map};
-ghost use Prim.Native.Nat.{_≤_};
+ghost use Prim.Native.Nat.{_≤_, _<_};
 ghost use lib.ListN.{length, drop, replicate};
 ghost use Rattle.lists.specs.Splice.{splice};
 ghost use Rattle.lists.specs.Basics.{flat};
@@ -40,15 +39,15 @@ fn put_rows(w: &mut [u32], identifiers: &[u32])
 }
 
 // Writes the whole record. Message count and asked are among the cleared words.
-pub fn write_fresh(w: &mut [u32], identifiers: &[u32])
-    requires { ⌜ (1 ≤ length (now identifiers)) × (length (now identifiers) ≤ mostNodes) × (recordSize ≤ length (now w)) ⌝ }
-    ensures { λ _. ⌜ now (w .exit) ≡ words (fresh (now (identifiers .entry))) ++ drop recordSize (now (w .entry)) ⌝ }
+pub fn write_fresh(w: &mut [u32], identifiers: &[u32], founder: usize)
+    requires { ⌜ (founder < length (now identifiers)) × (length (now identifiers) ≤ mostNodes) × (recordSize ≤ length (now w)) ⌝ }
+    ensures { λ _. ⌜ now (w .exit) ≡ words (fresh (now (identifiers .entry)) founder) ++ drop recordSize (now (w .entry)) ⌝ }
 {
     clear(w, RECORD_WORDS);
     w[0] = FORM;
     w[1] = identifiers.len() as u32;
     put_rows(w, identifiers);
-    let node = founding_node(identifiers);
-    let identifier = identifiers[node as usize];
+    let node = founder as u32;
+    let identifier = identifiers[founder];
     put_row(w, node, alone_row(node, identifier));
 }

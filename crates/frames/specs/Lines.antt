@@ -14,7 +14,7 @@ use Rattle.protocol.specs.declared.Frame.the-variants.{Founding, Command, Unrea
 use Rattle.protocol.specs.declared.Line.{Line}
 use Rattle.protocol.specs.declared.Outcome.{Outcome}
 use Rattle.protocol.specs.Names.{UNREADABLE}
-use Rattle.protocol.specs.Calls.{Called, freshCall, stepCall}
+use Rattle.protocol.specs.Calls.{Called, freshByCall, stepCall}
 use Rattle.protocol.specs.Frames.{frame, identifiers, refusalText, outcomeText, line, answering, frameCall, lineCall}
 
 module _ (w l : List ℕ) (f : Frame) (e : f ≡ frame l) where
@@ -28,10 +28,10 @@ module _ (w l : List ℕ) (f : Frame) (e : f ≡ frame l) where
   answered called o after p c q = ap answering c ∙ ap (λ z. record { printed = z; slice = after }) (sym q)
 
   module _ (o : Outcome) (after : List ℕ) (p : Line) (q : p ≡ line (outcomeText o)) where
-    pub founding-line : (n : ℕ) → f ≡ Founding n → freshCall w (identifiers l n) ≡ record { outcome = o; slice = after }
+    pub founding-line : (n : ℕ) → f ≡ Founding n → freshByCall w (identifiers l n) 0 ≡ record { outcome = o; slice = after }
         → lineCall w l ≡ record { printed = p; slice = after }
     unfolding frameCall
-    founding-line n k c = known (Founding n) k ∙ answered (freshCall w (identifiers l n)) o after p c q
+    founding-line n k c = known (Founding n) k ∙ answered (freshByCall w (identifiers l n) 0) o after p c q
 
     pub command-line : (operation x y : ℕ) → f ≡ Command operation x y → stepCall w operation x y ≡ record { outcome = o; slice = after }
         → lineCall w l ≡ record { printed = p; slice = after }

@@ -3,7 +3,7 @@ use crate::digits::read8;
 use crate::printing::outcome_line;
 use crate::printing::refusal_line;
 use crate::reading::decode;
-use founding::fresh;
+use founding::fresh_by;
 use protocol::Frame;
 use protocol::Line;
 use protocol::Outcome;
@@ -12,7 +12,7 @@ use steps::step;
 ghost use mathlib.Core.Path.{_≡_};
 ghost use Prim.Native.Nat.{_+_, _*_, _≤_};
 ghost use lib.ListN.{length, take};
-ghost use Rattle.protocol.specs.Calls.{freshCall};
+ghost use Rattle.protocol.specs.Calls.{freshByCall};
 ghost use Rattle.protocol.specs.Frames.{identifiers as identifiersSpec, lineCall};
 
 // The identifiers that follow F0, in the first places of an array that has room for the most that a frame can hold.
@@ -29,13 +29,14 @@ fn identifiers(line: &[u8], count: usize) -> [u32; 64]
     ids
 }
 
-// The fresh call of a line that decodes as a founding with so many identifiers.
+// The fresh call of a line that decodes as a founding with so many identifiers. A line has no place for a founder, and those who write it
+// count on the first node: it names node 0.
 pub fn fresh_ring(w: &mut [u32], line: &[u8], count: usize) -> Outcome
     requires { ⌜ (count ≤ 64) × (2 + 8 * count ≤ length (now line)) ⌝ }
-    ensures { λ r. ⌜ freshCall (now (w .entry)) (identifiersSpec (now (line .entry)) count) ≡ record { outcome = r; slice = now (w .exit) } ⌝ }
+    ensures { λ r. ⌜ freshByCall (now (w .entry)) (identifiersSpec (now (line .entry)) count) 0 ≡ record { outcome = r; slice = now (w .exit) } ⌝ }
 {
     let ids = identifiers(line, count);
-    fresh(w, &ids[..count])
+    fresh_by(w, &ids[..count], 0)
 }
 
 // One line, without its LF, on the record's words: what is printed for it, and the words after it. Every line and every slice are taken.

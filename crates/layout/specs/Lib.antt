@@ -3,3 +3,4 @@ pub mod Form
 pub mod Edits
 pub mod Questions
 pub mod Bytes
+pub mod Founder

@@ -8,8 +8,9 @@ use Rattle.protocol.specs.declared.Outcome.{Outcome}
 use Rattle.protocol.specs.declared.Outcome.the-variants.{Refused, Answered}
 use Rattle.protocol.specs.declared.Ownership.{Ownership}
 use Rattle.protocol.specs.Names.{OUTPUT-SHORT}
+use Rattle.protocol.specs.Fresh.{smallest}
 use Rattle.protocol.specs.Answers.{refusal, outcomeWords, ownerRefusal, ownerWords}
-use Rattle.protocol.specs.Calls.{Called, stepCall, freshCall, ownerCall}
+use Rattle.protocol.specs.Calls.{Called, stepCall, freshByCall, ownerCall}
 
 abbrev pub Byte : ℕ → Type 0
 Byte x = x < 256
@@ -81,6 +82,9 @@ pub record FreshBytes : Type 0 where
 unfoldable pub freshCarried : List ℕ → Called → FreshBytes
 freshCarried bytes called = record { code = refusal (called .outcome); bytes = bytesAfter bytes (called .slice) (called .outcome) }
 
--- The identifiers travel as bytes too.
-unfoldable pub freshBytes : List ℕ → List ℕ → FreshBytes
-freshBytes bytes identifiers = freshCarried bytes (freshCall (wordsOf bytes) (wordsOf identifiers))
+-- The identifiers travel as bytes too; the founder is a number.
+unfoldable pub freshByBytes : List ℕ → List ℕ → ℕ → FreshBytes
+freshByBytes bytes identifiers founder = freshCarried bytes (freshByCall (wordsOf bytes) (wordsOf identifiers) founder)
+
+abbrev pub freshBytes : List ℕ → List ℕ → FreshBytes
+freshBytes bytes identifiers = freshByBytes bytes identifiers (smallest (wordsOf identifiers))

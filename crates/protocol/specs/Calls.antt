@@ -13,10 +13,10 @@ use Rattle.protocol.specs.declared.Ownership.{Ownership}
 use Rattle.protocol.specs.declared.Ownership.the-variants.{Refused as OwnerRefused, HeldBy}
 use Rattle.protocol.specs.declared.Roll.{Roll}
 use Rattle.protocol.specs.declared.Roll.the-variants.{Refused as RollRefused, Length}
-use Rattle.protocol.specs.Names.{IDENTIFIER-COUNT, IDENTIFIER-TWICE, NOT-IN-RING, NOT-WELL-FORMED, NO-HOLDER, NO-HUB, NO-WAY-ROUND, OUTPUT-SHORT, RECORD-SHORT}
+use Rattle.protocol.specs.Names.{IDENTIFIER-COUNT, IDENTIFIER-TWICE, NOT-IN-RING, NOT-WELL-FORMED, NO-FOUNDER, NO-HOLDER, NO-HUB, NO-WAY-ROUND, OUTPUT-SHORT, RECORD-SHORT}
 use Rattle.protocol.specs.Record.{mostNodes, rowSize, rowStart, recordSize, none, State, count, countIn, row, read, words}
 use Rattle.protocol.specs.WellFormed.{wellFormed}
-use Rattle.protocol.specs.Fresh.{fresh}
+use Rattle.protocol.specs.Fresh.{smallest, fresh}
 use Rattle.protocol.specs.Routing.{inRing}
 use Rattle.protocol.specs.Step.{Result, refused, accepted, step}
 use Rattle.protocol.specs.Membership.{holds}
@@ -46,13 +46,19 @@ written w (accepted a s) = record { outcome = Answered a; slice = words s ++ dro
 unfoldable pub stepCall : List ℕ → ℕ → ℕ → ℕ → Called
 stepCall w operation x y = onRecord w (turnedDown w) (written w (step (read w) operation x y))
 
--- Fresh: '1 to 64 identifiers? 13. All different? 14.' It answers quiet.
-unfoldable pub freshCall : List ℕ → List ℕ → Called
-freshCall w ids =
+-- Fresh, with the founder named: '1 to 64 identifiers? 13. All different? 14.', and then (document 02, 2026-02) whether the founder is one of
+-- the hubs: 18. It answers quiet.
+unfoldable pub freshByCall : List ℕ → List ℕ → ℕ → Called
+freshByCall w ids founder =
     require (long w) (turnedDown w RECORD-SHORT)
     (require (leb 1 (length ids) && leb (length ids) mostNodes) (turnedDown w IDENTIFIER-COUNT)
     (require (distinct ids) (turnedDown w IDENTIFIER-TWICE)
-    (written w (accepted Quiet (fresh ids)))))
+    (require (ltb founder (length ids)) (turnedDown w NO-FOUNDER)
+    (written w (accepted Quiet (fresh ids founder))))))
+
+-- Fresh, where nobody is named.
+abbrev pub freshCall : List ℕ → List ℕ → Called
+freshCall w ids = freshByCall w ids (smallest ids)
 
 -- Owner query: 'does some hub hold the number? 15 (the lowest hub number if several).'
 abbrev pub lowestHolder : State → ℕ → ℕ

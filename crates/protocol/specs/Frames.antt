@@ -13,7 +13,7 @@ use Rattle.protocol.specs.declared.Frame.the-variants.{Founding, Command
 use Rattle.protocol.specs.declared.Line.{Line}
 use Rattle.protocol.specs.Names.{UNREADABLE}
 use Rattle.protocol.specs.Answers.{answerWords}
-use Rattle.protocol.specs.Calls.{Called, freshCall, stepCall}
+use Rattle.protocol.specs.Calls.{Called, freshByCall, stepCall}
 
 -- 'What `ringrun` reads and prints is hexadecimal', 'upper case': 0 to 9 are the bytes 48 to 57, A to F the bytes 65 to 70.
 unfoldable pub isDigit : ℕ → Bool
@@ -97,9 +97,9 @@ pub record Printed : Type 0 where
 unfoldable pub answering : Called → Printed
 answering c = record { printed = line (outcomeText (c .outcome)); slice = c .slice }
 
--- '.. prints `EEFF`', and no word changes. FF is 255.
+-- A founding frame names hub 0 (document 02, 2026-02). '.. prints `EEFF`', and no word changes. FF is 255.
 unfoldable pub frameCall : List ℕ → List ℕ → Frame → Printed
-frameCall w l (Founding n) = answering (freshCall w (identifiers l n))
+frameCall w l (Founding n) = answering (freshByCall w (identifiers l n) 0)
 frameCall w l (Command operation x y) = answering (stepCall w operation x y)
 frameCall w l Unreadable = record { printed = line (refusalText UNREADABLE); slice = w }
 

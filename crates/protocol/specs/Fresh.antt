@@ -1,14 +1,17 @@
--- Document 01, 'Fresh, from a list of identifiers'.
+-- Document 01, 'Fresh, from a list of identifiers', with the founder of document 02, 2026-02.
 use mathlib.Core.List.{List, [], map}
 use Prim.Native.Nat.{ℕ}
-use lib.ListN.{getD, set}
+use lib.Dec.{leb}
+use lib.ListN.{length, getD, set}
+use Rattle.lists.specs.Basics.{first, every}
 use Rattle.protocol.specs.declared.Row.{Row}
 use Rattle.protocol.specs.Names.{INSIDE}
 use Rattle.protocol.specs.Record.{none, State, outside}
 
--- The hub that founds the ring: 'hub 0', whatever the identifiers are. The ledger starts with it too, so it is named here alone.
-abbrev pub founder : List ℕ → ℕ
-founder ids = 0
+-- The hub with the smallest identifier, which founds where the caller names nobody: none of the identifiers is below its own. (Of several
+-- such hubs the lowest number; where identifiers differ there is one.)
+unfoldable pub smallest : List ℕ → ℕ
+smallest ids = first (λ hub. every (leb (getD ids hub 0)) ids) (length ids)
 
 -- 'inside, unlocked, its own pred and succ'
 abbrev pub alone : ℕ → ℕ → Row
@@ -19,5 +22,5 @@ abbrev pub foundedBy : ℕ → List ℕ → List Row
 foundedBy hub ids = set (map outside ids) hub (alone hub (getD ids hub 0))
 
 -- 'asked 0, no message'
-unfoldable pub fresh : List ℕ → State
-fresh ids = record { rows = foundedBy (founder ids) ids; messages = []; asked = 0 }
+unfoldable pub fresh : List ℕ → ℕ → State
+fresh ids founder = record { rows = foundedBy founder ids; messages = []; asked = 0 }

@@ -1,5 +1,5 @@
 -- Document 01, 'Ledger and holders': the ledger (here: the membership), holders and the counts of questions.
--- 'It is fed these answers and the identifiers that the fresh call was given, and nothing of the record.'
+-- It is fed these answers, the identifiers that the fresh call was given and the founder, and nothing of the record.
 use mathlib.Core.Bool.{Bool, _&&_}
 use mathlib.Core.List.{List, [], _∷_}
 use Prim.Native.Nat.{ℕ, _+_}
@@ -14,12 +14,11 @@ use Rattle.protocol.specs.declared.Outcome.{Outcome}
 use Rattle.protocol.specs.declared.Outcome.the-variants.{Refused, Answered}
 use Rattle.protocol.specs.Names.{LOOKUP}
 use Rattle.protocol.specs.Record.{round, State, row, identifier}
-use Rattle.protocol.specs.Fresh.{founder}
 use Rattle.protocol.specs.Routing.{responsible, covers}
 
--- 'The ledger is a set of hub numbers, at first {0}', the hub that founds the ring.
-abbrev pub foundingMembers : List ℕ → List ℕ
-foundingMembers ids = founder ids ∷ []
+-- The ledger is a set of hub numbers. At first it has the founder alone (document 02, 2026-02).
+abbrev pub foundingMembers : ℕ → List ℕ
+foundingMembers founder = founder ∷ []
 
 -- 'It takes in the hub of each entered answer and strikes off the hub of each gone answer.'
 unfoldable pub struckOff : List ℕ → ℕ → List ℕ

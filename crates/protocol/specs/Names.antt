@@ -160,6 +160,10 @@ NO-WAY-ROUND = 16
 abbrev pub OUTPUT-SHORT : ℕ
 OUTPUT-SHORT = 17
 
+-- fresh: the founder named is not below the hub count
+abbrev pub NO-FOUNDER : ℕ
+NO-FOUNDER = 18
+
 -- a line of `ringrun` that is no frame, which prints EEFF: no call returns it
 abbrev pub UNREADABLE : ℕ
 UNREADABLE = 255

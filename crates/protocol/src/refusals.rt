@@ -50,5 +50,8 @@ pub const NO_WAY_ROUND: u32 = 16;
 // The lent output is too short.
 pub const OUTPUT_SHORT: u32 = 17;
 
+// Fresh: the founder named is not below the hub count.
+pub const NO_FOUNDER: u32 = 18;
+
 // A line of `ringrun` that is no frame: it prints EEFF. No call returns this number.
 pub const UNREADABLE: u32 = 255;

@@ -1,15 +1,17 @@
-// The ring engine as its callers see it: five calls on a lent record of 1,988 words (document 01), and the step with a tally.
+// The ring engine as its callers see it: six calls on a lent record of 1,988 words (documents 01 and 02), and the step with a tally.
 //
 // None of them asks for anything: each takes slices of any length, any words in them and any numbers, and what is wrong is refused by
-// document 01's numbers. Their contracts are equations with the meaning in protocol/specs/Calls.antt:
+// the documents' numbers. Their contracts are equations with the meaning in protocol/specs/Calls.antt:
 //
-//     fresh(record, identifiers)                  freshCall     founds a ring of these identifiers
+//     fresh(record, identifiers)                  freshCall     founds a ring of these identifiers, by the hub with the smallest
+//     fresh_by(record, identifiers, founder)      freshByCall   the same, by the hub that is named
 //     step(record, operation, x, y)               stepCall      ask, join, leave or deliver
 //     owner(record, number)                       ownerCall     the hub that holds a number
 //     hub_row(record, hub)                        rowCall       the seven words of a hub, in the caller's own slice
 //     roll_call(record, hub, output)              rollCall      the hubs around the ring, from a hub on
 //     counted_step(record, operation, x, y, tally)  stepCall, counted
 pub use founding::fresh;
+pub use founding::fresh_by;
 pub use queries::hub_row;
 pub use queries::owner;
 pub use queries::roll_call;

@@ -14,7 +14,7 @@ use Rattle.protocol.specs.Names.{NO-HOLDER}
 use Rattle.protocol.specs.Record.{mostNodes, recordSize, countIn, read, words}
 use Rattle.protocol.specs.WellFormed.{wellFormed}
 use Rattle.protocol.specs.Step.{Result, refused, accepted, step}
-use Rattle.protocol.specs.Calls.{Called, turnedDown, written, onRecord, stepCall, ownerCall, freshCall, lowestHolder}
+use Rattle.protocol.specs.Calls.{Called, turnedDown, written, onRecord, stepCall, ownerCall, freshByCall, lowestHolder}
 use Rattle.protocol.specs.Fresh.{fresh}
 use Rattle.protocol.specs.declared.Answer.the-variants.{Quiet}
 use Rattle.protocol.specs.declared.Outcome.the-variants.{Answered}
@@ -106,11 +106,13 @@ same-question f true x y x′ y′ p q = q
 same-question f false x y x′ y′ p q = p
 
 -- a fresh call does not read the words: what is made of its result may be made of that on other words
-pub same-fresh : {X : Type 0} (f : Called → X) (w z ids : List ℕ) → recordSize ≤ length w → recordSize ≤ length z
-    → ((k : ℕ) → f (turnedDown w k) ≡ f (turnedDown z k)) → f (written w (accepted Quiet (fresh ids))) ≡ f (written z (accepted Quiet (fresh ids)))
-    → f (freshCall w ids) ≡ f (freshCall z ids)
-unfolding freshCall
-same-fresh f w z ids l m n r =
+pub same-fresh : {X : Type 0} (f : Called → X) (w z ids : List ℕ) (founder : ℕ) → recordSize ≤ length w → recordSize ≤ length z
+    → ((k : ℕ) → f (turnedDown w k) ≡ f (turnedDown z k))
+    → f (written w (accepted Quiet (fresh ids founder))) ≡ f (written z (accepted Quiet (fresh ids founder)))
+    → f (freshByCall w ids founder) ≡ f (freshByCall z ids founder)
+unfolding freshByCall
+same-fresh f w z ids founder l m n r =
     ap f (on-yes _ _ _ (long-yes w l))
-    ∙ same-question f (leb 1 (length ids) && leb (length ids) mostNodes) _ _ _ _ (n 13) (same-question f (distinct ids) _ _ _ _ (n 14) r)
+    ∙ same-question f (leb 1 (length ids) && leb (length ids) mostNodes) _ _ _ _ (n 13)
+    (same-question f (distinct ids) _ _ _ _ (n 14) (same-question f (ltb founder (length ids)) _ _ _ _ (n 18) r))
     ∙ sym (ap f (on-yes _ _ _ (long-yes z m)))

@@ -1,3 +1,4 @@
+pub mod Founder
 pub mod First
 pub mod Carry
 pub mod Results

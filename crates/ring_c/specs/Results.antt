@@ -17,8 +17,8 @@ use Rattle.protocol.specs.Fresh.{fresh}
 use Rattle.protocol.specs.Step.{accepted}
 use Rattle.protocol.specs.declared.Ownership.the-variants.{Refused as OwnerRefused}
 use Rattle.protocol.specs.Answers.{refusal, outcomeWords, ownerRefusal, ownerWords}
-use Rattle.protocol.specs.Calls.{turnedDown, written, stepCall, freshCall, ownerCall}
-use Rattle.protocol.specs.Bytes.{Byte, wordsOf, over, bytesAfter, carried, freshCarried, stepBytes, freshBytes, told, ownerBytes}
+use Rattle.protocol.specs.Calls.{turnedDown, written, stepCall, freshByCall, ownerCall}
+use Rattle.protocol.specs.Bytes.{Byte, wordsOf, over, bytesAfter, carried, freshCarried, stepBytes, freshByBytes, told, ownerBytes}
 use Rattle.layout.specs.Words.{length-words}
 use Rattle.layout.specs.Questions.{long-yes, long-no, record-1}
 use Rattle.ring_c.specs.First.{with, same-step, same-fresh, same-owner}
@@ -46,13 +46,13 @@ pub words-length : (b : List ℕ) → length (wordsOf b) ≡ length b / 4
 words-length b = ap length (words-all b) ∙ length-table (length b / 4) (wordAt b)
 
 -- a fresh ring has a row for each identifier, and no message
-fresh-count : (ids : List ℕ) → length ids ≤ mostNodes → count (fresh ids) ≤ mostNodes
+fresh-count : (ids : List ℕ) (f : ℕ) → length ids ≤ mostNodes → count (fresh ids f) ≤ mostNodes
 unfolding fresh
-fresh-count ids h = simp (length-set, length-map) (omega arith)
+fresh-count ids f h = simp (length-set, length-map) (omega arith)
 
-fresh-quiet : (ids : List ℕ) → length (fresh ids .messages) ≤ mostMessages
+fresh-quiet : (ids : List ℕ) (f : ℕ) → length (fresh ids f .messages) ≤ mostMessages
 unfolding fresh
-fresh-quiet ids = omega arith
+fresh-quiet ids f = omega arith
 
 module _ (b out : List ℕ) (operation x y : ℕ) where
   pub step-17 : length out < 20 → stepBytes b operation x y out ≡ record { code = OUTPUT-SHORT; bytes = b; output = out }
@@ -78,13 +78,13 @@ module _ (b out : List ℕ) (operation x y : ℕ) where
       ∙ ap (carried b out) (same-step a t (length-table recordSize (wordAt b)) operation x y ∙ ap (with t) r)
       ∙ carried-first b s recordSize bytes e out o
 
-module _ (b ids : List ℕ) where
-  pub fresh-1 : length b < 4 * recordSize → freshBytes b ids ≡ record { code = RECORD-SHORT; bytes = b }
-  unfolding freshBytes freshCall freshCarried refusal bytesAfter
+module _ (b ids : List ℕ) (f : ℕ) where
+  pub fresh-1 : length b < 4 * recordSize → freshByBytes b ids f ≡ record { code = RECORD-SHORT; bytes = b }
+  unfolding freshByBytes freshByCall freshCarried refusal bytesAfter
   fresh-1 l = ap (freshCarried b) (on-no _ _ _ (long-no (wordsOf b) (omega (arith, words-length b))))
 
-  pub fresh-13 : 4 * recordSize ≤ length b → mostNodes < length ids / 4 → freshBytes b ids ≡ record { code = IDENTIFIER-COUNT; bytes = b }
-  unfolding freshBytes freshCall freshCarried refusal bytesAfter
+  pub fresh-13 : 4 * recordSize ≤ length b → mostNodes < length ids / 4 → freshByBytes b ids f ≡ record { code = IDENTIFIER-COUNT; bytes = b }
+  unfolding freshByBytes freshByCall freshCarried refusal bytesAfter
   fresh-13 l h =
       let n = length (wordsOf ids) in
       ap (freshCarried b) (on-yes _ _ _ (long-yes (wordsOf b) (omega (arith, words-length b)))
@@ -92,12 +92,12 @@ module _ (b ids : List ℕ) where
 
   -- the call on any other 1,988 words z, which leaves the words s
   pub fresh-rest : All Byte b → 4 * recordSize ≤ length b → length ids / 4 ≤ mostNodes → (z : List ℕ) → length z ≡ recordSize → (o : Outcome) (s : List ℕ)
-      → freshCall z (firstWords ids (length ids / 4)) ≡ record { outcome = o; slice = s }
-      → freshBytes b ids ≡ freshCarried b (record { outcome = o; slice = s })
-  unfolding freshBytes freshCarried refusal bytesAfter written
+      → freshByCall z (firstWords ids (length ids / 4)) f ≡ record { outcome = o; slice = s }
+      → freshByBytes b ids f ≡ freshCarried b (record { outcome = o; slice = s })
+  unfolding freshByBytes freshCarried refusal bytesAfter written
   fresh-rest bytes l h z e o s r =
-      ap (λ i. freshCarried b (freshCall (wordsOf b) i)) (words-all ids)
-      ∙ same-fresh (freshCarried b) (wordsOf b) z i (omega (arith, words-length b)) (omega arith) refused-same accepted-same
+      ap (λ i. freshCarried b (freshByCall (wordsOf b) i f)) (words-all ids)
+      ∙ same-fresh (freshCarried b) (wordsOf b) z i f (omega (arith, words-length b)) (omega arith) refused-same accepted-same
       ∙ ap (freshCarried b) r
     where
       i : List ℕ
@@ -109,14 +109,14 @@ module _ (b ids : List ℕ) where
       behind : drop recordSize (wordsOf b) ≡ wordsOf (drop (4 * recordSize) b)
       behind = ap (drop recordSize) (words-split b recordSize l) ∙ drop-at (firstWords b recordSize) _ recordSize (length-table recordSize (wordAt b))
 
-      size : length (words (fresh i)) ≡ recordSize
-      size = length-words (fresh i) [] (fresh-count i (omega (arith, length-table (length ids / 4) (wordAt ids)))) (fresh-quiet i)
+      size : length (words (fresh i f)) ≡ recordSize
+      size = length-words (fresh i f) [] (fresh-count i f (omega (arith, length-table (length ids / 4) (wordAt ids)))) (fresh-quiet i f)
 
-      accepted-same : freshCarried b (written (wordsOf b) (accepted Quiet (fresh i))) ≡ freshCarried b (written z (accepted Quiet (fresh i)))
+      accepted-same : freshCarried b (written (wordsOf b) (accepted Quiet (fresh i f))) ≡ freshCarried b (written z (accepted Quiet (fresh i f)))
       accepted-same =
-          ap (λ l. record { code = 0; bytes = over b (words (fresh i) ++ l) }) behind
-          ∙ ap (λ l. record { code = 0; bytes = l }) (back b (words (fresh i)) recordSize bytes size)
-          ∙ ap (λ l. record { code = 0; bytes = over b l }) (sym (append-nil (words (fresh i))) ∙ ap (λ l. words (fresh i) ++ l) (sym (drop-of-length-le z {i = recordSize} (omega arith))))
+          ap (λ l. record { code = 0; bytes = over b (words (fresh i f) ++ l) }) behind
+          ∙ ap (λ l. record { code = 0; bytes = l }) (back b (words (fresh i f)) recordSize bytes size)
+          ∙ ap (λ l. record { code = 0; bytes = over b l }) (sym (append-nil (words (fresh i f))) ∙ ap (λ l. words (fresh i f) ++ l) (sym (drop-of-length-le z {i = recordSize} (omega arith))))
 
 module _ (b out : List ℕ) (number : ℕ) where
   pub owner-17 : length out < 4 → ownerBytes b number out ≡ record { code = OUTPUT-SHORT; output = out }

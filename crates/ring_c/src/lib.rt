@@ -1,18 +1,18 @@
 // The ring for programs in C (document 01, 'Reading the ring'): the words travel as bytes, four a word, lowest first. Every length of
 // every lent slice is taken, and whatever is wrong is refused by its number. include/ring.h says the same to a C compiler.
 mod bytes;
+mod foundings;
 mod results;
 
-use crate::bytes::load;
 use crate::bytes::loaded;
+use crate::foundings::Founder;
+use crate::foundings::found;
 use crate::results::finish;
-use crate::results::finish_fresh;
 use crate::results::finish_owner;
 use protocol::form::RECORD_BYTES;
-use protocol::form::RECORD_WORDS;
 use protocol::refusals;
 ghost use mathlib.Core.Path.{_≡_};
-ghost use Rattle.protocol.specs.Bytes.{stepBytes, ownerBytes, freshBytes};
+ghost use Rattle.protocol.specs.Bytes.{stepBytes, ownerBytes, freshBytes, freshByBytes};
 
 // One command on the record in the lent bytes. Only the record is loaded, since a step looks at nothing behind it.
 #[no_mangle]
@@ -46,21 +46,18 @@ pub extern "C" fn ring_owner(words: &[u8], number: u32, out: &mut [u8]) -> u32
     finish_owner(out, r)
 }
 
-// A ring founded in the lent bytes. They are not loaded, since an accepted call writes the whole record.
+// A ring founded in the lent bytes by the node with the smallest identifier.
 #[no_mangle]
 pub extern "C" fn ring_fresh(words: &mut [u8], identifiers: &[u8]) -> u32
     ensures { λ r. ⌜ freshBytes (now (words .entry)) (now (identifiers .entry)) ≡ record { code = r; bytes = now (words .exit) } ⌝ }
 {
-    if words.len() < RECORD_BYTES {
-        return 1;
-    }
-    let n = identifiers.len() / 4;
-    if 64 < n {
-        return 13;
-    }
-    let mut ids = [0u32; 64];
-    load(identifiers, &mut ids, n);
-    let mut w = [0u32; RECORD_WORDS];
-    let r = founding::fresh(&mut w, &ids[..n]);
-    finish_fresh(words, &w, r)
+    found(words, identifiers, Founder::Smallest)
+}
+
+// A ring founded there by the node that the caller names.
+#[no_mangle]
+pub extern "C" fn ring_fresh_by(words: &mut [u8], identifiers: &[u8], founder: u32) -> u32
+    ensures { λ r. ⌜ freshByBytes (now (words .entry)) (now (identifiers .entry)) founder ≡ record { code = r; bytes = now (words .exit) } ⌝ }
+{
+    found(words, identifiers, Founder::Named(founder))
 }

@@ -22,11 +22,8 @@ slice-write-w-2 c = simp length-set (omega (arith, c .before .before .clear .kep
 put-rows-requires : tie.Need-put-rows-requires
 put-rows-requires c κs = simp length-set (omega (arith, c .before .before .before .clear .kept .0))
 
-founding-node-requires : tie.Need-founding-node-requires
-founding-node-requires c κs = search needs
-
-cast-identifier : tie.Need-cast-identifier
-cast-identifier c = search needs
+cast-node : tie.Need-cast-node
+cast-node c = search needs
 
 mul-identifier : tie.Need-mul-identifier
 mul-identifier c = search needs
@@ -39,21 +36,21 @@ alone-row-requires c κs = search needs
 
 put-row-requires : tie.Need-put-row-requires
 put-row-requires c κs =
-    let p = c .before .before .before .before .before .before in
-    omega (arith, c .before .before .before .founding-node .ensures, simp length-set at (p .put-rows .kept .0), p .before .before .before .before .clear .kept .0)
+    let p = c .before .before .before .before .before in
+    omega (arith, simp length-set at (p .put-rows .kept .0), p .before .before .before .before .clear .kept .0)
 
 same-length : tie.Need-same-length
 same-length c =
-    let p = c .before .before .before .before .before .before .before .before .before in
+    let p = c .before .before .before .before .before .before .before .before in
     c .before .before .put-row .kept .0 ∙ p .put-rows .kept .0 ∙ simp length-set (p .before .before .before .before .clear .kept .0)
 
 returns : tie.Need-returns
 returns c =
-    let p = c .before .before .before .before .before .before .before .before .before in
+    let p = c .before .before .before .before .before .before .before .before in
     let a = p .before .before .before .before .before .before .before .before .args in
     c .before .before .put-row .ensures
-    ∙ rw (c .before .before .before .alone-row .ensures, c .before .before .before .before .before .before .founding-node .ensures, p .put-rows .ensures, p .before .before .before .before .clear .ensures)
-    (fresh-is (a .identifiers .now) (a .w .now) (omega arith) (omega arith))
+    ∙ rw (c .before .before .before .alone-row .ensures, p .put-rows .ensures, p .before .before .before .before .clear .ensures)
+    (fresh-is (a .identifiers .now) (a .w .now) (a .founder) (omega arith) (omega arith))
 
 pub write-fresh-spec : {M : Type 1} → statement M
 write-fresh-spec =
@@ -64,8 +61,7 @@ write-fresh-spec =
     cast-w
     slice-write-w-2
     put-rows-requires
-    founding-node-requires
-    cast-identifier
+    cast-node
     mul-identifier
     shared-slice-read-identifier
     alone-row-requires

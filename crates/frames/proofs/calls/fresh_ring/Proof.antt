@@ -1,4 +1,4 @@
--- `fresh_ring` is the fresh call on the identifiers that are read. Assumes nothing.
+-- `fresh_ring` is the fresh call on the identifiers that are read, by node 0. Assumes nothing.
 use Rattle.frames.specs.Founding.{length-identifiers}
 use mathlib.Core.Path.{ap, sym, _∙_}
 use lib.ListN.{length}
@@ -12,17 +12,17 @@ identifiers-requires c κs = search needs
 array-share-prefix-ids : tie.Need-array-share-prefix-ids
 array-share-prefix-ids c = search needs
 
-slice-aggregate-fresh : tie.Need-slice-aggregate-fresh
-slice-aggregate-fresh c = sym (ap length (c .before .before .identifiers .ensures) ∙ length-identifiers (c .before .before .before .before .before .args .line .now) (c .before .before .before .before .before .args .count))
+slice-aggregate-fresh-by : tie.Need-slice-aggregate-fresh-by
+slice-aggregate-fresh-by c = sym (ap length (c .before .before .identifiers .ensures) ∙ length-identifiers (c .before .before .before .before .before .args .line .now) (c .before .before .before .before .before .args .count))
 
-fresh-requires : tie.Need-fresh-requires
-fresh-requires c κs = search needs
+fresh-by-requires : tie.Need-fresh-by-requires
+fresh-by-requires c κs = search needs
 
 same-length : tie.Need-same-length
 same-length c = search needs
 
 returns : tie.Need-returns
-returns c = rw (← c .before .before .before .before .before .identifiers .ensures) (c .before .before .fresh .ensures)
+returns c = rw (← c .before .before .before .before .before .identifiers .ensures) (c .before .before .fresh-by .ensures)
 
 pub fresh-ring-spec : {M : Type 1} → statement M
 fresh-ring-spec =
@@ -30,7 +30,7 @@ fresh-ring-spec =
     (tie.spec
     identifiers-requires
     array-share-prefix-ids
-    slice-aggregate-fresh
-    fresh-requires
+    slice-aggregate-fresh-by
+    fresh-by-requires
     same-length
     returns)

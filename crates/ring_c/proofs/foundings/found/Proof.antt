@@ -1,4 +1,4 @@
--- `ring_fresh` meets its contract: a fresh call on other words is one on the lent words, and writing the record is writing all of them. Assumes nothing.
+-- `found` meets its contract: a fresh call on other words is one on the lent words, and writing the record is writing all of them. Assumes nothing.
 use mathlib.Core.Path.{sym, _∙_}
 use Prim.Native.Nat.{ℕ, _/_}
 use lib.ListN.{length, replicate, length-replicate}
@@ -7,18 +7,23 @@ use native.Mathlib.Omega.{arith}
 use Rattle.lists.specs.Basics.{All}
 use Rattle.lists.specs.Members.{all-at}
 use Rattle.ring_c.specs.Carry.{wordAt}
-use Rattle.ring_c.specs.Results.{fresh-1, fresh-13, fresh-rest}
+use Rattle.ring_c.specs.Founder.{founderOf}
+use Rattle.ring_c.specs.Results.{words-all, fresh-1, fresh-13, fresh-rest}
 use borrow.Author.Needs.{needs}
-use Rattle.ring_c.proofs.ring_fresh.Statement.{statement}
-use Rattle.protocol.specs.Bytes.{Byte}
-use Rattle.ring_c.proofs.ring_fresh.Tie as tie
-use Rattle.ring_c.proofs.ring_fresh.Lts as lts
+use Rattle.ring_c.proofs.foundings.found.Statement.{statement}
+use Rattle.protocol.specs.Bytes.{Byte, wordsOf}
+use Rattle.ring_c.proofs.foundings.found.Tie as tie
+use Rattle.ring_c.proofs.foundings.found.Lts as lts
 
 returns : tie.Need-returns
-returns c = fresh-1 (c .before .before .before .args .words .now) (c .before .before .before .args .identifiers .now) (omega arith)
+returns c =
+    let a = c .before .before .before .args in
+    fresh-1 (a .words .now) (a .identifiers .now) (founderOf (a .founder) (wordsOf (a .identifiers .now))) (omega arith)
 
 returns-2 : tie.Need-returns-2
-returns-2 c = fresh-13 (c .before .before .before .before .args .words .now) (c .before .before .before .before .args .identifiers .now) (omega arith) (omega arith)
+returns-2 c =
+    let a = c .before .before .before .before .args in
+    fresh-13 (a .words .now) (a .identifiers .now) (founderOf (a .founder) (wordsOf (a .identifiers .now))) (omega arith) (omega arith)
 
 slice-aggregate-load : tie.Need-slice-aggregate-load
 slice-aggregate-load c = search needs
@@ -52,12 +57,13 @@ returns-3 c =
     let a = c .before .before .before .before .before .before .before .before .before .before .before .before .before .before .before .before .args in
     let b = a .words .now in
     let bytes : All Byte b = all-at Byte b 0 (λ i h. omega (arith, c .before .before .before .before .before .before .before .before .before .before .before .before .before .before .before .slice-known .given i)) in
-    fresh-rest b (a .identifiers .now) bytes (omega arith) (omega arith) (replicate 1988 0) (length-replicate {A = ℕ} 1988 0) _ _
-    (rw (c .before .before .before .before .before .before .before .before .before .before .load .ensures) at (c .before .before .before .before .before .before .fresh .ensures))
+    let ids = a .identifiers .now in
+    fresh-rest b ids (founderOf (a .founder) (wordsOf ids)) bytes (omega arith) (omega arith) (replicate 1988 0) (length-replicate {A = ℕ} 1988 0) _ _
+    (rw words-all (rw (c .before .before .before .before .before .before .before .before .before .before .load .ensures) at (c .before .before .before .before .before .before .fresh .ensures)))
     ∙ c .before .before .finish-fresh .ensures
 
-pub ring-fresh-spec : {M : Type 1} → statement M
-ring-fresh-spec =
+pub found-spec : {M : Type 1} → statement M
+found-spec =
     tie.close
     (tie.spec
     returns

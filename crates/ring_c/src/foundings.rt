@@ -1,0 +1,44 @@
+// Founding a ring in lent bytes, whoever is to found it.
+use crate::bytes::load;
+use crate::results::finish_fresh;
+use protocol::Outcome;
+use protocol::form::RECORD_BYTES;
+use protocol::form::RECORD_WORDS;
+use protocol::refusals;
+ghost use mathlib.Core.Path.{_≡_};
+ghost use Rattle.protocol.specs.Bytes.{wordsOf, freshByBytes};
+ghost use Rattle.protocol.specs.Calls.{freshByCall};
+ghost use Rattle.ring_c.specs.Founder.{founderOf};
+
+// The node with the smallest identifier, or the one that the caller names.
+pub enum Founder {
+    Smallest,
+    Named(u32),
+}
+
+fn fresh(w: &mut [u32], identifiers: &[u32], founder: Founder) -> Outcome
+    ensures { λ r. ⌜ freshByCall (now (w .entry)) (now (identifiers .entry)) (founderOf founder (now (identifiers .entry))) ≡ record { outcome = r; slice = now (w .exit) } ⌝ }
+{
+    match founder {
+        Founder::Smallest => founding::fresh(w, identifiers),
+        Founder::Named(node) => founding::fresh_by(w, identifiers, node),
+    }
+}
+
+// The lent bytes are not loaded, since an accepted call writes the whole record.
+pub(crate) fn found(words: &mut [u8], identifiers: &[u8], founder: Founder) -> u32
+    ensures { λ r. ⌜ freshByBytes (now (words .entry)) (now (identifiers .entry)) (founderOf founder (wordsOf (now (identifiers .entry)))) ≡ record { code = r; bytes = now (words .exit) } ⌝ }
+{
+    if words.len() < RECORD_BYTES {
+        return refusals::RECORD_SHORT;
+    }
+    let n = identifiers.len() / 4;
+    if 64 < n {
+        return refusals::IDENTIFIER_COUNT;
+    }
+    let mut ids = [0u32; 64];
+    load(identifiers, &mut ids, n);
+    let mut w = [0u32; RECORD_WORDS];
+    let r = fresh(&mut w, &ids[..n], founder);
+    finish_fresh(words, &w, r)
+}
