@@ -4,7 +4,7 @@
 use crate::queries::owner;
 use crate::record::RECORD_WORDS;
 use crate::refusal;
-use crate::step::{fresh, step};
+use crate::step::{fresh, fresh_by, step};
 
 /// Nothing was refused.
 pub const NO_REFUSAL: u32 = 0;
@@ -61,11 +61,27 @@ pub fn ring_owner(words: &[u8], key: u32, out: &mut [u8]) -> u32 {
     }
 }
 
-/// Founding on bytes. Document 01 exports step and owner only; this one lets
-/// tests found a ring in the same form.
+/// Founding on bytes. Document 01 exports step and owner only; this one and
+/// the next let tests found a ring in the same form.
 pub fn ring_fresh(words: &mut [u8], identifiers: &[u8]) -> u32 {
+    founding(words, identifiers, fresh)
+}
+
+/// Founding on bytes by the hub that the caller names.
+pub fn ring_fresh_by(words: &mut [u8], identifiers: &[u8], founder: u32) -> u32 {
+    founding(words, identifiers, |record, names| {
+        fresh_by(record, names, founder)
+    })
+}
+
+/// Either form of founding.
+fn founding(
+    words: &mut [u8],
+    identifiers: &[u8],
+    found: impl Fn(&mut [u32], &[u32]) -> Result<(), u32>,
+) -> u32 {
     let mut record = words_of(words, RECORD_WORDS);
-    match fresh(&mut record, &words_of(identifiers, usize::MAX)) {
+    match found(&mut record, &words_of(identifiers, usize::MAX)) {
         Ok(()) => {
             write_words(words, &record);
             NO_REFUSAL

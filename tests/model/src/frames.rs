@@ -1,10 +1,14 @@
 //! Frames of `ringrun`: one line in, one line out (document 01, '`ringrun`').
 
 use crate::answer::Answer;
-use crate::step::{fresh, step};
+use crate::step::{fresh_by, step};
 
 /// `F0` and 64 identifiers of 8 digits: the longest frame that reads.
 pub const MAX_DIGITS: usize = 514;
+
+/// The hub that a founding frame names. The frame has no place for a founder,
+/// and who writes frames relies on the first hub (document 02, 2026-02).
+pub const FOUNDER: u32 = 0;
 
 /// What a frame that does not read prints.
 pub const UNREADABLE: &str = "EEFF";
@@ -69,7 +73,9 @@ fn encode(outcome: Result<Answer, u32>) -> String {
 /// also without LF. 'Founding prints quiet.'
 pub fn answer_line(line: &[u8], words: &mut [u32]) -> String {
     match decode(line) {
-        Frame::Found(identifiers) => encode(fresh(words, &identifiers).map(|()| Answer::quiet())),
+        Frame::Found(identifiers) => {
+            encode(fresh_by(words, &identifiers, FOUNDER).map(|()| Answer::quiet()))
+        }
         Frame::Command(operation, x, y) => encode(step(words, operation, x, y)),
         Frame::Unreadable => UNREADABLE.to_string(),
     }

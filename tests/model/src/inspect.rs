@@ -7,10 +7,11 @@
 use std::io::{self, BufRead, Write};
 
 use crate::answer::Answer;
+use crate::frames::FOUNDER;
 use crate::lines;
 use crate::queries::{hub_row, owner, roll_call};
 use crate::record::{State, RECORD_WORDS};
-use crate::step::fresh;
+use crate::step::fresh_by;
 use crate::tally::{step_tallied, Tally};
 
 mod request;
@@ -19,7 +20,7 @@ mod text;
 use request::Request;
 
 pub use request::{KEPT_WORDS, MOST_PLACES};
-pub use text::UNREADABLE;
+pub use text::{refusal_name, UNREADABLE};
 
 /// What the program keeps from line to line.
 #[derive(Clone, Debug)]
@@ -61,7 +62,8 @@ impl Inspect {
     pub fn answer_line(&mut self, line: &[u8]) -> String {
         match request::read(line) {
             Request::Found(identifiers) => {
-                let founded = fresh(&mut self.words[..self.lent], &identifiers);
+                let words = &mut self.words[..self.lent];
+                let founded = fresh_by(words, &identifiers, FOUNDER);
                 text::outcome(&founded.map(|()| Answer::quiet()))
             }
             Request::Step(operation, x, y) => {

@@ -12,9 +12,9 @@ use crate::record::State;
 
 pub use crate::witness::{Violation, Witness};
 
-/// A set of node numbers, at first {0} (document 01: ledger). 'It is fed
-/// these answers and the identifiers that the fresh call was given, and
-/// nothing of the record.'
+/// A set of node numbers, at first the founder alone (document 01: ledger;
+/// document 02, 2026-02). It is fed the answers, the identifiers and the
+/// founder of the fresh call, 'and nothing of the record'.
 #[derive(Clone, Debug, PartialEq, Eq, Hash)]
 pub struct Membership {
     identifiers: Vec<u32>,
@@ -22,11 +22,12 @@ pub struct Membership {
 }
 
 impl Membership {
-    /// The membership of the ring that fresh founds with these identifiers.
-    pub fn new(identifiers: &[u32]) -> Membership {
+    /// The membership of the ring that this node founds with these
+    /// identifiers; a fresh call that names none is founded by the smallest.
+    pub fn new(identifiers: &[u32], founder: u32) -> Membership {
         Membership {
             identifiers: identifiers.to_vec(),
-            members: BTreeSet::from([0]),
+            members: BTreeSet::from([founder]),
         }
     }
 

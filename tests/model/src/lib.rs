@@ -34,5 +34,5 @@ pub use command::Command;
 pub use ledger::{Membership, Witness};
 pub use queries::{hub_row, owner, roll_call};
 pub use record::{well_formed, RECORD_WORDS};
-pub use step::{fresh, step};
+pub use step::{fresh, fresh_by, step};
 pub use tally::{step_tallied, Tally};

@@ -1,5 +1,6 @@
-//! The refusal numbers of document 01, 'Questions before a call, in order'.
-//! Each is the number returned on a no to the question named beside it.
+//! The refusal numbers of document 01, 'Questions before a call, in order',
+//! and of document 02. Each is the number returned on a no to the question
+//! named beside it.
 
 /// Are there 1,988 words?
 pub const RECORD_SHORT: u32 = 1;
@@ -35,3 +36,5 @@ pub const NO_HOLDER: u32 = 15;
 pub const NO_WAY_ROUND: u32 = 16;
 /// Is the output long enough?
 pub const OUTPUT_SHORT: u32 = 17;
+/// Is the founder below the hub count?
+pub const NO_FOUNDER: u32 = 18;

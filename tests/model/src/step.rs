@@ -14,8 +14,23 @@ use crate::record::{
 use crate::refusal;
 use crate::routing::{route, Route};
 
-/// Founds a ring: hub 0 alone inside, the others outside.
+/// Founds a ring by the hub with the smallest identifier, wherever it stands
+/// in the list (document 02, 2026-02).
 pub fn fresh(words: &mut [u32], identifiers: &[u32]) -> Result<(), u32> {
+    fresh_by(words, identifiers, smallest(identifiers))
+}
+
+/// The hub with the smallest identifier. An empty list has none, and is
+/// refused whichever hub stands for it.
+pub fn smallest(identifiers: &[u32]) -> u32 {
+    let hubs = 0..identifiers.len() as u32;
+    hubs.min_by_key(|&hub| identifiers[hub as usize])
+        .unwrap_or(0)
+}
+
+/// Founds a ring by the hub that the caller names: it alone inside, the
+/// others outside (document 02, 2026-02).
+pub fn fresh_by(words: &mut [u32], identifiers: &[u32], founder: u32) -> Result<(), u32> {
     if words.len() < RECORD_WORDS {
         return Err(refusal::RECORD_SHORT);
     }
@@ -25,15 +40,18 @@ pub fn fresh(words: &mut [u32], identifiers: &[u32]) -> Result<(), u32> {
     if !all_different(identifiers) {
         return Err(refusal::IDENTIFIERS_REPEAT);
     }
-    let mut rows: Vec<Row> = identifiers.iter().map(|&i| outside_row(i)).collect();
-    rows[0].state = INSIDE;
-    rows[0].pred = 0;
-    rows[0].succ = 0;
-    let state = State {
+    if founder as usize >= identifiers.len() {
+        return Err(refusal::NO_FOUNDER);
+    }
+    let mut state = State {
         asked: 0,
-        rows,
+        rows: identifiers.iter().map(|&i| outside_row(i)).collect(),
         messages: Vec::new(),
     };
+    let row = state.row_mut(founder);
+    row.state = INSIDE;
+    row.pred = founder;
+    row.succ = founder;
     state.write(words);
     Ok(())
 }

@@ -52,16 +52,16 @@ pub struct Witness {
 }
 
 impl Witness {
-    /// A witness of the ring founded with these identifiers; deliveries are
-    /// tried with the model's own step.
-    pub fn new(identifiers: &[u32]) -> Witness {
-        Witness::with_step(identifiers, step)
+    /// A witness of the ring that this node founded with these identifiers;
+    /// deliveries are tried with the model's own step.
+    pub fn new(identifiers: &[u32], founder: u32) -> Witness {
+        Witness::with_step(identifiers, founder, step)
     }
 
     /// The same, with deliveries tried by the step of the engine under test.
-    pub fn with_step(identifiers: &[u32], step: StepCall) -> Witness {
+    pub fn with_step(identifiers: &[u32], founder: u32, step: StepCall) -> Witness {
         Witness {
-            membership: Membership::new(identifiers),
+            membership: Membership::new(identifiers, founder),
             lookups: Lookups::default(),
             tickets: HashSet::new(),
             keys: interesting_keys(identifiers),

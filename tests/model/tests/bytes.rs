@@ -3,7 +3,7 @@
 mod common;
 
 use common::Run;
-use ring_model::bytes::{ring_fresh, ring_owner, ring_step};
+use ring_model::bytes::{ring_fresh, ring_fresh_by, ring_owner, ring_step};
 use ring_model::{step, RECORD_WORDS};
 
 const RECORD_BYTES: usize = 4 * RECORD_WORDS;
@@ -31,6 +31,45 @@ fn lowest_byte_first() {
     assert_eq!(out[..12], [1, 0, 0, 0, 0, 0, 0, 0, 1, 2, 3, 4]);
     assert_eq!(out[12..], [0, 0, 0, 0, 0, 0, 0, 0, 0xBB, 0xBB]);
     assert_eq!(words[12..16], [1, 0, 0, 0]);
+}
+
+/// Both forms of founding on bytes: hub 1 has the smallest identifier, though
+/// its lowest byte is the largest.
+#[test]
+fn founders() {
+    let identifiers = [1, 0, 0, 2, 0xFF, 0xFF, 0, 1, 0, 0, 0, 3, 9, 9, 9];
+    let row = |words: &[u8], hub: usize| words[16 + 28 * hub + 4];
+    let mut smallest = vec![0xAA; RECORD_BYTES + 3];
+    assert_eq!(ring_fresh(&mut smallest, &identifiers), 0);
+    assert_eq!([0, 1, 2].map(|hub| row(&smallest, hub)), [0, 2, 0]);
+    for founder in 0..3 {
+        let mut words = vec![0xAA; RECORD_BYTES + 3];
+        assert_eq!(ring_fresh_by(&mut words, &identifiers, founder), 0);
+        let states = [0, 1, 2].map(|hub| row(&words, hub));
+        assert_eq!(states[founder as usize], 2);
+        assert_eq!(states.iter().sum::<u8>(), 2);
+        assert_eq!(words == smallest, founder == 1);
+        assert_eq!(words[RECORD_BYTES..], [0xAA; 3]);
+    }
+}
+
+/// Left-over bytes are no hub either: 3 is not below the hub count.
+#[test]
+fn no_founder_on_bytes() {
+    let identifiers = [1, 0, 0, 0, 2, 0, 0, 0, 3, 0, 0, 0, 4, 0, 0];
+    let mut words = two_at_rest();
+    let before = words.clone();
+    for founder in [3, 4, 64, 255, 256, u32::MAX] {
+        assert_eq!(ring_fresh_by(&mut words, &identifiers, founder), 18);
+    }
+    assert_eq!(ring_fresh_by(&mut words, &[1; 12], 3), 14);
+    assert_eq!(ring_fresh_by(&mut words, &[1, 2, 3], 0), 13);
+    assert_eq!(ring_fresh_by(&mut words, &[7; 260], 99), 13);
+    assert_eq!(
+        ring_fresh_by(&mut words[..RECORD_BYTES - 1], &[1; 12], 9),
+        1
+    );
+    assert_eq!(words, before);
 }
 
 #[test]

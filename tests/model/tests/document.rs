@@ -1,5 +1,6 @@
 //! Document 01 read aloud: its listing, its probes, the field engineer's
-//! checks, every refusal number, and the faults a good engineer makes.
+//! checks, every refusal number, and the faults a good engineer makes; and who
+//! founds, by document 02.
 
 mod common;
 
@@ -7,6 +8,8 @@ mod common;
 mod checklist;
 #[path = "document/faults.rs"]
 mod faults;
+#[path = "document/founding.rs"]
+mod founding;
 #[path = "document/kinds.rs"]
 mod kinds;
 #[path = "document/listing.rs"]

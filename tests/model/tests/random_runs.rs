@@ -19,6 +19,7 @@ struct Met {
     kinds: BTreeSet<u32>,
     most_waiting: usize,
     rests: usize,
+    founders: BTreeSet<u32>,
 }
 
 impl Met {
@@ -41,11 +42,22 @@ fn call(run: &mut Run, command: Command, met: &mut Met) {
     met.note(run, &outcome);
 }
 
+/// A fresh ring in either form, by any founder.
+fn founded(generator: &mut Generator, n: usize) -> Run {
+    let names = identifiers(generator, n);
+    if generator.chance(50) {
+        return Run::found(&names);
+    }
+    Run::found_by(&names, generator.below(n as u32))
+}
+
 /// One run of some calls, then deliveries in random order until the ring is
 /// at rest.
 fn random_run(seed: u64, n: usize, mix: Mix, calls: usize, met: &mut Met) {
     let mut generator = Generator::new(seed);
-    let mut run = Run::found(&identifiers(&mut generator, n));
+    let mut run = founded(&mut generator, n);
+    met.founders
+        .extend(run.witness.membership().members().iter().copied());
     for _ in 0..calls {
         let next = command(&mut generator, mix, &run.state());
         call(&mut run, next, met);
@@ -74,6 +86,7 @@ fn rings_of_every_size() {
     assert_eq!(met.answers, (0..=7).collect());
     assert_eq!(met.kinds, (1..=14).collect());
     assert!(met.rests > 100, "{} times at rest", met.rests);
+    assert!(met.founders.len() > 32, "founders: {:?}", met.founders);
 }
 
 /// Full records refuse with 11 and deliver all the same.
@@ -81,7 +94,7 @@ fn rings_of_every_size() {
 fn rings_full_of_messages() {
     let mut met = Met::default();
     for n in [2, 3, 5, 8, 16, 64] {
-        random_run(500 + n as u64, n, FLOODED, 1200, &mut met);
+        random_run(500 + n as u64, n, FLOODED, 2000, &mut met);
     }
     assert_eq!(met.most_waiting, 256);
     // 10 and 12 are out of reach of a run from fresh.

@@ -87,6 +87,15 @@ fn founding_again() {
     assert_eq!(printed(input), expected);
 }
 
+/// A founding frame names hub 0, whichever hub has the smallest identifier.
+#[test]
+fn hub_0_founds() {
+    let input = b"F0FFFFFFFF0000000000000064\n000000000000000000\n000000000100000000\n\
+                  020000000000000000\n";
+    let found = "010000000000000000000000\n";
+    assert_eq!(printed(input), format!("{QUIET}{found}EE05\nEE08\n"));
+}
+
 #[test]
 fn line_ends() {
     assert_eq!(printed(b""), "");

@@ -177,7 +177,9 @@ fn kind_name(kind: u32) -> &'static str {
     }
 }
 
-fn refusal_name(number: u32) -> &'static str {
+/// The name of a refusal number. No line is refused by 18, since a founding
+/// frame names hub 0, but the number has its name like the others.
+pub fn refusal_name(number: u32) -> &'static str {
     match number {
         refusal::RECORD_SHORT => "record short",
         refusal::NOT_WELL_FORMED => "not well formed",
@@ -196,6 +198,7 @@ fn refusal_name(number: u32) -> &'static str {
         refusal::NO_HOLDER => "no holder",
         refusal::NO_WAY_ROUND => "no way round",
         refusal::OUTPUT_SHORT => "output short",
-        _ => unreachable!("document 01 has no such refusal"),
+        refusal::NO_FOUNDER => "no founder",
+        _ => unreachable!("the documents have no such refusal"),
     }
 }

@@ -3,7 +3,10 @@
 
 use ring_model::command::{ASK, DELIVER, JOIN, LEAVE};
 use ring_model::record::{Message, Row, State, INSIDE, NONE, OUTSIDE};
-use ring_model::{fresh, roll_call, step, well_formed, Answer, Command, Witness, RECORD_WORDS};
+use ring_model::step::smallest;
+use ring_model::{
+    fresh, fresh_by, roll_call, step, well_formed, Answer, Command, Witness, RECORD_WORDS,
+};
 
 pub mod driver;
 pub mod orders;
@@ -17,19 +20,30 @@ pub struct Run {
 }
 
 impl Run {
+    /// Founded by the smallest identifier.
     pub fn found(identifiers: &[u32]) -> Run {
         let mut words = vec![0; RECORD_WORDS];
         fresh(&mut words, identifiers).expect("fresh is accepted");
-        let mut witness = Witness::new(identifiers);
+        Run::watched(words, Witness::new(identifiers, smallest(identifiers)))
+    }
+
+    /// Founded by this node.
+    pub fn found_by(identifiers: &[u32], founder: u32) -> Run {
+        let mut words = vec![0; RECORD_WORDS];
+        fresh_by(&mut words, identifiers, founder).expect("fresh is accepted");
+        Run::watched(words, Witness::new(identifiers, founder))
+    }
+
+    fn watched(words: Vec<u32>, mut witness: Witness) -> Run {
         witness
             .judge(&words)
             .expect("the empty list keeps demand 3");
         Run { words, witness }
     }
 
-    /// A ring at rest with node 0 and these others inside.
+    /// A ring at rest with node 0, which founded it, and these others inside.
     pub fn with_members(identifiers: &[u32], others: &[u32]) -> Run {
-        let mut run = Run::found(identifiers);
+        let mut run = Run::found_by(identifiers, 0);
         for &node in others {
             run.join(node, 0).expect("join is accepted");
             run.drain();

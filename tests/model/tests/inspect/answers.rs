@@ -127,6 +127,22 @@ fn rolls() {
     assert_eq!(ask(&mut full, "roll 0 64"), answer);
 }
 
+/// A founding frame names hub 0, whichever hub has the smallest identifier.
+#[test]
+fn hub_0_founds() {
+    let lines = ["F0000000C800000064", "row 0", "row 1", "owner 100"];
+    let texts = [
+        "quiet",
+        "row 0: identifier 200, inside, lock free, flag down, pred 0, succ 0, oldpred none",
+        "row 1: identifier 100, outside, lock free, flag down, \
+         pred none, succ none, oldpred none",
+        "owner of 100: hub 0",
+    ];
+    for (count, text) in (1..).zip(texts) {
+        assert_eq!(last(&lines[..count]), text);
+    }
+}
+
 #[test]
 fn owners() {
     let mut inspect = holding(&two_at_rest());

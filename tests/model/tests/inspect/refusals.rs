@@ -1,5 +1,6 @@
 //! Each refusal by its number and its name, and which call gives it.
 
+use ring_model::inspect::refusal_name;
 use ring_model::kinds::{JOINDONE, LOOKUP};
 use ring_model::record::Message;
 use ring_model::RECORD_WORDS;
@@ -8,7 +9,7 @@ use super::{ask, holding, last};
 use crate::common::{inside, message, outside, record, Run};
 
 /// The names, in the order of their numbers.
-pub const NAMES: [&str; 17] = [
+pub const NAMES: [&str; 18] = [
     "record short",
     "not well formed",
     "no operation",
@@ -26,6 +27,7 @@ pub const NAMES: [&str; 17] = [
     "no holder",
     "no way round",
     "output short",
+    "no founder",
 ];
 
 fn refused(number: usize) -> String {
@@ -39,6 +41,13 @@ fn two_at_rest() -> Vec<u32> {
         &[inside(100, 1, 1), inside(200, 0, 0), outside(300)],
         &[],
     )
+}
+
+#[test]
+fn names_by_number() {
+    for (name, number) in NAMES.iter().zip(1..) {
+        assert_eq!(refusal_name(number), *name);
+    }
 }
 
 /// Every line that asks something of the record, with words too few, then
