@@ -7,6 +7,7 @@ use ring_model::record::RECORD_WORDS;
 use ring_model::witness::StepCall;
 
 use crate::engine;
+use crate::form::Form;
 
 /// Bytes of a record.
 pub const RECORD_BYTES: usize = 4 * RECORD_WORDS;
@@ -16,6 +17,8 @@ pub const RECORD_BYTES: usize = 4 * RECORD_WORDS;
 pub struct Calls {
     /// `ring_fresh`.
     pub fresh: fn(&mut [u8], &[u8]) -> u32,
+    /// `ring_fresh_by`.
+    pub fresh_by: fn(&mut [u8], &[u8], u32) -> u32,
     /// `ring_step`.
     pub step: fn(&mut [u8], u32, u32, u32, &mut [u8]) -> u32,
     /// `ring_owner`.
@@ -31,12 +34,23 @@ pub struct Calls {
 /// The engine itself.
 pub const ENGINE: Calls = Calls {
     fresh: engine::fresh,
+    fresh_by: engine::fresh_by,
     step: engine::step,
     owner: engine::owner,
     word_step: engine_word_step,
     ringrun: "target/bin/ringrun",
     inspect: "target/bin/inspect",
 };
+
+impl Calls {
+    /// Founds in either form.
+    pub fn found(&self, form: Form, words: &mut [u8], identifiers: &[u8]) -> u32 {
+        match form {
+            Form::Smallest => (self.fresh)(words, identifiers),
+            Form::By(founder) => (self.fresh_by)(words, identifiers, founder),
+        }
+    }
+}
 
 /// The engine's step on a record of words.
 fn engine_word_step(words: &mut [u32], operation: u32, x: u32, y: u32) -> Result<Answer, u32> {
@@ -56,6 +70,11 @@ fn engine_word_step(words: &mut [u32], operation: u32, x: u32, y: u32) -> Result
 pub fn word_at(bytes: &[u8], i: usize) -> u32 {
     let four = &bytes[4 * i..4 * i + 4];
     u32::from_le_bytes([four[0], four[1], four[2], four[3]])
+}
+
+/// All whole words of bytes.
+pub fn words_of(bytes: &[u8]) -> Vec<u32> {
+    (0..bytes.len() / 4).map(|i| word_at(bytes, i)).collect()
 }
 
 /// Puts word i.

@@ -30,8 +30,9 @@ pub struct Claims {
 }
 
 impl Claims {
-    /// The claims about the ring that fresh founds with these identifiers.
-    pub fn new(identifiers: &[u32]) -> Claims {
+    /// The claims about the ring that this node founds with these identifiers: the ledger starts
+    /// with it alone.
+    pub fn new(identifiers: &[u32], founder: u32) -> Claims {
         let mut by_identifier: Vec<u32> = (0..identifiers.len() as u32).collect();
         by_identifier.sort_by_key(|&node| identifiers[node as usize]);
         let mut place = vec![0; identifiers.len()];
@@ -41,7 +42,7 @@ impl Claims {
         Claims {
             sorted: by_identifier.iter().map(|&node| identifiers[node as usize]).collect(),
             by_identifier,
-            members: 1 << place[0],
+            members: 1 << place[founder as usize],
             place,
             accepted: 0,
             answered: 0,

@@ -8,6 +8,7 @@ use ring_model::Command;
 
 use crate::calls::{put_word, put_words, word_at, Calls, RECORD_BYTES};
 use crate::driver::{on_any_state, Phase};
+use crate::form::Form;
 use crate::identifiers::{identifiers, ring_size, some_key};
 use crate::pair::Pair;
 use crate::reached::Reached;
@@ -22,7 +23,8 @@ const _: () = assert!(WINDOW * WINDOWS == RECORD_WORDS);
 /// A state that a run reaches, as the model alone makes it.
 pub fn reachable(generator: &mut Generator) -> State {
     let n = ring_size(generator);
-    let mut state = founded(&identifiers(generator, n));
+    let names = identifiers(generator, n);
+    let mut state = founded(&names, Form::some(generator, n));
     let mut phases = vec![Phase::new(generator), Phase::new(generator)];
     if generator.chance(30) {
         phases.insert(0, Phase::growth(n));

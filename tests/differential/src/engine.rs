@@ -1,4 +1,4 @@
-//! The engine's three C calls, as functions on slices. This is the only file with `unsafe`.
+//! The engine's four C calls, as functions on slices. This is the only file with `unsafe`.
 #![allow(unsafe_code)]
 
 extern "C" {
@@ -7,6 +7,13 @@ extern "C" {
         words_len: usize,
         identifiers: *const u8,
         identifiers_len: usize,
+    ) -> u32;
+    fn ring_fresh_by(
+        words: *mut u8,
+        words_len: usize,
+        identifiers: *const u8,
+        identifiers_len: usize,
+        founder: u32,
     ) -> u32;
     fn ring_step(
         words: *mut u8,
@@ -26,11 +33,18 @@ extern "C" {
     ) -> u32;
 }
 
-/// Founds a ring.
+/// Founds a ring by the smallest identifier.
 pub fn fresh(words: &mut [u8], identifiers: &[u8]) -> u32 {
     // SAFETY: both slices are valid for their lengths, the borrows keep them apart, and no pointer
     // is kept.
     unsafe { ring_fresh(words.as_mut_ptr(), words.len(), identifiers.as_ptr(), identifiers.len()) }
+}
+
+/// Founds a ring by the hub that is named.
+pub fn fresh_by(words: &mut [u8], identifiers: &[u8], founder: u32) -> u32 {
+    let (names, length) = (identifiers.as_ptr(), identifiers.len());
+    // SAFETY: as for fresh.
+    unsafe { ring_fresh_by(words.as_mut_ptr(), words.len(), names, length, founder) }
 }
 
 /// Makes one step.

@@ -15,10 +15,14 @@ pub struct Expected {
     after: Vec<usize>,
 }
 
-/// `ringrun` as the model has it.
-pub fn ringrun(text: &[u8], _reached: &mut Reached) -> Expected {
+/// `ringrun` as the model has it; foundings that pass over the smallest identifier are counted.
+pub fn ringrun(text: &[u8], reached: &mut Reached) -> Expected {
     let mut words = vec![0; RECORD_WORDS];
-    Expected::new(text, |line| answer_line(line, &mut words))
+    Expected::new(text, |line| {
+        let answer = answer_line(line, &mut words);
+        reached.founded.frame(line, &answer);
+        answer
+    })
 }
 
 /// `inspect` as the model has it; what it says is counted.

@@ -9,15 +9,16 @@ use ring_model::kinds::LOOKUP;
 use ring_model::queries::holds;
 use ring_model::record::{message_start, State};
 use ring_model::refusal::{
-    IDENTIFIERS_REPEAT, LINK_EMPTY, NOT_AS_REQUIRED, NOT_WELL_FORMED, OUTPUT_SHORT, RECORD_SHORT,
+    LINK_EMPTY, NOT_AS_REQUIRED, NOT_WELL_FORMED, OUTPUT_SHORT, RECORD_SHORT,
 };
 use ring_model::Answer;
 
-use crate::calls::{answer_of, put_word, word_at, Calls, ENGINE, RECORD_BYTES};
+use crate::calls::{answer_of, put_word, word_at, words_of, Calls, ENGINE, RECORD_BYTES};
 use crate::engine;
 use crate::filters::{FILTERS, NO_FAULT};
 use crate::parts::PARTS;
 use crate::reached::Reached;
+use crate::wrong_foundings::{NAMED, UNNAMED};
 
 /// A seldom fault shows in one of so many calls.
 const SELDOM: u64 = 3000;
@@ -69,23 +70,27 @@ pub fn faults() -> Vec<Fault> {
     let fault = |name, part, calls| Fault { name, part, calls };
     let steps = STEPS.iter().map(|&(name, part, step)| fault(name, part, Calls { step, ..ENGINE }));
     let filtered = |&(name, inspect)| fault(name, "inspect", Calls { inspect, ..ENGINE });
-    steps.chain(other_faults()).chain(FILTERS.iter().map(filtered)).collect()
+    let others = other_faults().into_iter().chain(FILTERS.iter().map(filtered));
+    steps.chain(wrong_foundings()).chain(others).collect()
 }
 
-/// Wrong calls other than steps, and programs that are no ring at all.
-fn other_faults() -> [Fault; 8] {
+/// Wrong foundings of both forms.
+fn wrong_foundings() -> Vec<Fault> {
+    let unnamed = |&(name, part, fresh)| Fault { name, part, calls: Calls { fresh, ..ENGINE } };
+    let named = |&(name, part, fresh_by)| Fault { name, part, calls: Calls { fresh_by, ..ENGINE } };
+    UNNAMED.iter().map(unnamed).chain(NAMED.iter().map(named)).collect()
+}
+
+/// Wrong calls other than steps and foundings, and programs that are no ring at all.
+fn other_faults() -> [Fault; 6] {
     let fault = |name, part, calls| Fault { name, part, calls };
     let witness = Calls { word_step: refuses_words, ..ENGINE };
     let owner = Calls { owner: highest_holder, ..ENGINE };
-    let repeated = Calls { fresh: repeated_pass, ..ENGINE };
-    let left_over = Calls { fresh: reads_left_over, ..ENGINE };
     let echo = Calls { ringrun: "cat", inspect: "cat", ..ENGINE };
     let silent = Calls { ringrun: "true", inspect: "true", ..ENGINE };
     [
         fault("a delivery of the witness is refused, seldom", "witnessed", witness),
         fault("the highest holder", "unreachable", owner),
-        fault("repeated identifiers pass", "founding", repeated),
-        fault("left-over bytes are read", "founding", left_over),
         fault("a program that prints its input", "ringrun", echo),
         fault("a program that prints nothing", "ringrun", silent),
         fault("a program that prints its input, for inspect", "inspect", echo),
@@ -235,23 +240,9 @@ fn output_asked_late(words: &mut [u8], operation: u32, x: u32, y: u32, out: &mut
 
 fn highest_holder(words: &[u8], key: u32, out: &mut [u8]) -> u32 {
     let code = engine::owner(words, key, out);
-    let record: Vec<u32> = (0..words.len() / 4).map(|i| word_at(words, i)).collect();
-    if let (Ok(state), NO_REFUSAL) = (State::read(&record), code) {
+    if let (Ok(state), NO_REFUSAL) = (State::read(&words_of(words)), code) {
         let highest = (0..state.n()).rev().find(|&node| holds(&state, node, key));
         put_word(&mut out[..OWNER_BYTES], 0, highest.unwrap_or(0));
     }
     code
-}
-
-fn repeated_pass(words: &mut [u8], identifiers: &[u8]) -> u32 {
-    match engine::fresh(words, identifiers) {
-        IDENTIFIERS_REPEAT => NO_REFUSAL,
-        code => code,
-    }
-}
-
-fn reads_left_over(words: &mut [u8], identifiers: &[u8]) -> u32 {
-    let mut longer = identifiers.to_vec();
-    longer.resize(identifiers.len().div_ceil(4) * 4, 0);
-    engine::fresh(words, &longer)
 }

@@ -3,6 +3,7 @@
 
 use ring_model::generator::Generator;
 use ring_model::record::State;
+use ring_model::step::smallest;
 
 /// Some ring size, small ones more often: there the same nodes meet again and again.
 pub fn ring_size(generator: &mut Generator) -> usize {
@@ -27,6 +28,11 @@ pub fn identifiers(generator: &mut Generator, n: usize) -> Vec<u32> {
         chosen.swap(i, generator.below(i as u32 + 1) as usize);
     }
     chosen
+}
+
+/// Brings the smallest identifier to this place.
+pub fn put_smallest(names: &mut [u32], place: usize) {
+    names.swap(smallest(names) as usize, place);
 }
 
 /// Equally spaced identifiers: neighbours for a gap of 1.

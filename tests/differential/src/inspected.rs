@@ -7,6 +7,7 @@ use ring_model::refusal::NO_SUCH_NODE;
 use ring_model::tally::REFUSED;
 use ring_model::Tally;
 
+use crate::founded::passes_over_the_smallest;
 use crate::reached::{add_all, Cells};
 
 /// The answers by their kinds, as `inspect` names them, and the states and kinds of messages.
@@ -56,6 +57,7 @@ pub struct Inspected {
     /// Lines answered.
     pub lines: u64,
     fresh: Numbers,
+    first_founds: u64,
     step: Numbers,
     roll: Numbers,
     owner: Numbers,
@@ -76,8 +78,13 @@ impl Inspected {
     /// Takes in a line and its answer, with the counts before it and what `inspect` keeps after it.
     pub fn take_in(&mut self, line: &[u8], answer: &str, before: &Tally, inspect: &Inspect) {
         self.lines += 1;
-        match decode(line) {
-            Frame::Found(_) => self.fresh[number(answer)] += 1,
+        let frame = decode(line);
+        match &frame {
+            Frame::Found(_) => {
+                self.fresh[number(answer)] += 1;
+                let another = number(answer) == 0 && passes_over_the_smallest(&frame);
+                self.first_founds += u64::from(another);
+            }
             Frame::Command(..) => self.step(answer, before),
             Frame::Unreadable => self.reading(answer, inspect),
         }
@@ -156,6 +163,7 @@ impl Inspected {
     pub fn add(&mut self, other: &Inspected) {
         self.lines += other.lines;
         add_all(&mut self.fresh, &other.fresh);
+        self.first_founds += other.first_founds;
         add_all(&mut self.step, &other.step);
         add_all(&mut self.roll, &other.roll);
         add_all(&mut self.owner, &other.owner);
@@ -182,6 +190,7 @@ impl Inspected {
         let one = |count: u64| vec![(None, count)];
         vec![
             ("inspect: foundings, 0 or refused by", of(&OF_FRESH, &self.fresh)),
+            ("inspect: foundings whose first hub is not the smallest", one(self.first_founds)),
             ("inspect: steps, 0 or refused by", of(&OF_STEP, &self.step)),
             ("inspect: rows, 0 or none by", of(&OF_ROW, &self.row)),
             ("inspect: rolls, 0 or refused by", of(&OF_ROLL, &self.roll)),

@@ -5,6 +5,7 @@ use ring_model::inspect::{Inspect, KEPT_WORDS, MOST_PLACES};
 use ring_model::record::{State, MAX_MESSAGES, RECORD_WORDS};
 
 use crate::driver::{any_node, on_any_state, Phase};
+use crate::form::FRAME;
 use crate::identifiers::{identifiers, ring_size, some_key};
 use crate::scripts::{end, founding, frame, push_line};
 use crate::states::{any_state, founded, settled};
@@ -21,7 +22,8 @@ pub struct Script {
 
 /// A script of some lines.
 pub fn script(generator: &mut Generator) -> Vec<u8> {
-    let mut script = Script { text: Vec::new(), inspect: Inspect::default(), state: founded(&[0]) };
+    let state = founded(&[0], FRAME);
+    let mut script = Script { text: Vec::new(), inspect: Inspect::default(), state };
     // Some scripts begin before any founding, when the record is all 0.
     if generator.chance(10) {
         script.some_lines(generator);

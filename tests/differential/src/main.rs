@@ -1,4 +1,4 @@
-//! The engine beside the model of document 01: the C calls on lent bytes, `ringrun` and `inspect`,
+//! The engine beside the model of documents 01 and 02: the C calls on lent bytes, `ringrun` and `inspect`,
 //! on random and on hostile input. Every returned number, every byte of record and output, and the
 //! bytes around them are compared; runs from fresh are held to demand 3 as well.
 //!
@@ -16,6 +16,9 @@ mod engine;
 mod expected;
 mod faults;
 mod filters;
+mod form;
+mod founded;
+mod founding;
 mod identifiers;
 mod inspected;
 mod inspections;
@@ -35,6 +38,7 @@ mod trail;
 mod trouble;
 mod unreachable;
 mod wrong_claims;
+mod wrong_foundings;
 
 use std::env;
 use std::process::ExitCode;

@@ -1,10 +1,11 @@
 //! The calls on bytes, engine and model side by side, for records and lengths of every kind.
 
-use ring_model::bytes::{ring_fresh, ring_owner, ring_step, NO_REFUSAL};
+use ring_model::bytes::{ring_owner, ring_step, NO_REFUSAL};
 use ring_model::generator::Generator;
 use ring_model::Command;
 
-use crate::calls::{answer_of, Calls};
+use crate::calls::{answer_of, words_of, Calls};
+use crate::form::Form;
 use crate::lent::Lent;
 use crate::reached::Reached;
 
@@ -45,14 +46,20 @@ impl Pair {
     }
 
     /// A founding by both, compared. The identifiers must not change either.
-    pub fn fresh(&mut self, identifiers: &mut Lent, reached: &mut Reached) -> Result<(), String> {
-        let code = (self.calls.fresh)(self.record.engine(), identifiers.engine());
-        let should = ring_fresh(self.record.expected(), identifiers.look());
-        reached.code(code);
+    pub fn found(
+        &mut self,
+        form: Form,
+        identifiers: &mut Lent,
+        reached: &mut Reached,
+    ) -> Result<(), String> {
+        let code = self.calls.found(form, self.record.engine(), identifiers.engine());
+        let should = form.on_bytes(self.record.expected(), identifiers.look());
+        reached.founding(form, code, &words_of(identifiers.look()));
         let compared = self
             .compare(code, should)
             .and_then(|()| identifiers.difference("identifiers").map_or(Ok(()), Err));
-        compared.map_err(|what| format!("fresh with the bytes {:02X?}: {what}", identifiers.look()))
+        let bytes = identifiers.look();
+        compared.map_err(|what| format!("fresh {form:?} with the bytes {bytes:02X?}: {what}"))
     }
 
     fn compare(&self, code: u32, should: u32) -> Result<(), String> {

@@ -7,7 +7,7 @@ use ring_model::generator::Generator;
 
 use crate::calls::Calls;
 use crate::reached::Reached;
-use crate::{damaged, lengths, program, runs, unreachable};
+use crate::{damaged, founding, lengths, program, runs, unreachable};
 
 /// A batch of calls: everything random in it comes from the generator.
 pub type Batch = fn(&mut Generator, Calls, u64, &mut Reached) -> Result<(), String>;
@@ -29,7 +29,7 @@ pub const PARTS: [Part; 8] = [
     Part { name: "unreachable", share: 16, batch: unreachable::batch },
     Part { name: "damaged", share: 14, batch: damaged::batch },
     Part { name: "lengths", share: 3, batch: lengths::batch },
-    Part { name: "founding", share: 3, batch: lengths::founding_batch },
+    Part { name: "founding", share: 3, batch: founding::batch },
     Part { name: "ringrun", share: 10, batch: program::batch },
     Part { name: "inspect", share: 6, batch: program::inspect_batch },
 ];

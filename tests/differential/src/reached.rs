@@ -5,10 +5,12 @@ use ring_model::kinds::{as_required, LEAVEDONE, LOOKUP};
 use ring_model::record::{Message, State, MAX_HOPS, MAX_MESSAGES};
 use ring_model::{Answer, Command};
 
+use crate::form::Form;
+use crate::founded::Founded;
 use crate::inspected::Inspected;
 
-/// Refusal numbers of the C calls: 1 to 15 and 17. 16 is the roll call's, which C has not.
-const REFUSALS: [usize; 16] = [1, 2, 3, 4, 5, 6, 7, 8, 9, 10, 11, 12, 13, 14, 15, 17];
+/// Refusal numbers of the C calls: 1 to 15, 17 and 18. 16 is the roll call's, which C has not.
+const REFUSALS: [usize; 17] = [1, 2, 3, 4, 5, 6, 7, 8, 9, 10, 11, 12, 13, 14, 15, 17, 18];
 
 /// Counts by their numbers; a count of its own has no number.
 pub type Cells = Vec<(Option<usize>, u64)>;
@@ -22,11 +24,13 @@ pub struct Reached {
     pub tried: u64,
     /// Lines answered by `ringrun` and by `inspect`.
     pub lines: u64,
+    /// What the fresh calls were about.
+    pub founded: Founded,
     /// What `inspect` said.
     pub inspected: Inspected,
     /// The most nodes that were in the ledger at once.
     pub most_members: u64,
-    refusals: [u64; 18],
+    refusals: [u64; 19],
     answers: [u64; 8],
     delivered: [u64; 15],
     not_expected: [u64; 15],
@@ -45,6 +49,12 @@ impl Reached {
         if let Some(count) = self.refusals.get_mut(code as usize) {
             *count += 1;
         }
+    }
+
+    /// Counts a fresh call with these identifiers, and its number.
+    pub fn founding(&mut self, form: Form, code: u32, identifiers: &[u32]) {
+        self.code(code);
+        self.founded.take_in(form, code, identifiers);
     }
 
     /// Counts what a step was about, before it is made.
@@ -92,6 +102,7 @@ impl Reached {
         self.calls += other.calls;
         self.tried += other.tried;
         self.lines += other.lines;
+        self.founded.add(&other.founded);
         self.inspected.add(&other.inspected);
         self.most_members = self.most_members.max(other.most_members);
         add_all(&mut self.refusals, &other.refusals);
@@ -130,7 +141,7 @@ impl Reached {
             ("LOOKUPs delivered with hops at 65535", one(self.hops_stay)),
             ("LOOKUPs delivered to their own sender", one(self.to_itself)),
         ];
-        calls.into_iter().chain(self.inspected.rows()).collect()
+        calls.into_iter().chain(self.founded.rows()).chain(self.inspected.rows()).collect()
     }
 
     /// The table as text.

@@ -10,6 +10,7 @@ use ring_model::step::step_state;
 use ring_model::{Answer, Command};
 
 use crate::calls::{answer_of, put_words, Calls, RECORD_BYTES};
+use crate::form::Form;
 use crate::lent::Lent;
 use crate::reached::Reached;
 use crate::states::founded;
@@ -43,17 +44,18 @@ impl Ring {
         ring
     }
 
-    /// A ring that the engine founds, in memory with anything in it.
+    /// A ring that the engine founds in this form, in memory with anything in it.
     pub fn founded(
         generator: &mut Generator,
         calls: Calls,
         identifiers: &[u32],
+        form: Form,
     ) -> Result<Ring, String> {
-        let mut ring = Ring::new(generator, calls, founded(identifiers));
+        let mut ring = Ring::new(generator, calls, founded(identifiers, form));
         let mut bytes = vec![0; 4 * identifiers.len()];
         put_words(&mut bytes, identifiers);
         ring.record.engine()[..RECORD_BYTES].fill(generator.next_u32() as u8);
-        let code = (calls.fresh)(ring.record.engine(), &bytes);
+        let code = calls.found(form, ring.record.engine(), &bytes);
         if code != NO_REFUSAL {
             return Err(format!("fresh returns {code}, should return 0"));
         }

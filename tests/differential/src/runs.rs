@@ -1,5 +1,6 @@
 //! Runs from fresh rings: every call compared, and demand 3's claims after every call.
 
+use ring_model::bytes::NO_REFUSAL;
 use ring_model::generator::Generator;
 use ring_model::record::RECORD_WORDS;
 use ring_model::{Answer, Command, Witness};
@@ -7,6 +8,7 @@ use ring_model::{Answer, Command, Witness};
 use crate::calls::{Calls, RECORD_BYTES};
 use crate::claims::Claims;
 use crate::driver::Phase;
+use crate::form::Form;
 use crate::identifiers::{identifiers, ring_size, some_key};
 use crate::reached::Reached;
 use crate::ring::Ring;
@@ -73,13 +75,15 @@ fn run(
     reached: &mut Reached,
 ) -> Result<(), String> {
     let names = identifiers(generator, n);
-    let mut trail = Trail::new(format!("fresh {names:?}"));
-    let ring = Ring::founded(generator, calls, &names).map_err(|what| trail.tell(&what))?;
-    reached.code(0);
+    let form = Form::some(generator, n);
+    let mut trail = Trail::new(format!("fresh {form:?} {names:?}"));
+    let ring = Ring::founded(generator, calls, &names, form).map_err(|what| trail.tell(&what))?;
+    reached.founding(form, NO_REFUSAL, &names);
+    let founder = form.founder(&names);
     let mut run = Run {
         ring,
-        claims: Claims::new(&names),
-        witness: witnessed.then(|| Witness::with_step(&names, calls.word_step)),
+        claims: Claims::new(&names, founder),
+        witness: witnessed.then(|| Witness::with_step(&names, founder, calls.word_step)),
         copy: vec![0; RECORD_BYTES],
         reached,
     };

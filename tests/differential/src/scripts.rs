@@ -6,6 +6,7 @@ use ring_model::step::step_state;
 use ring_model::Command;
 
 use crate::driver::{anything, Phase};
+use crate::form::FRAME;
 use crate::identifiers::{identifiers, ring_size};
 use crate::lent::random_bytes;
 use crate::states::founded;
@@ -19,7 +20,7 @@ pub fn script(generator: &mut Generator) -> Vec<u8> {
     let mut text = Vec::new();
     // Some scripts begin before any founding, when the record is all 0.
     if generator.chance(10) {
-        let zero = founded(&[0]);
+        let zero = founded(&[0], FRAME);
         push_command(&mut text, anything(generator, &zero));
     }
     for _ in 0..1 + generator.below(4) {
@@ -44,7 +45,7 @@ fn ring_lines(generator: &mut Generator, text: &mut Vec<u8>) {
     let n = ring_size(generator);
     let names = identifiers(generator, n);
     push_line(text, founding(&names).as_bytes());
-    let mut state = founded(&names);
+    let mut state = founded(&names, FRAME);
     let hostile_share = [0, 3, 30][generator.below(3) as usize];
     for _ in 0..1 + generator.below(2) {
         let phase = Phase::new(generator);

@@ -4,12 +4,13 @@
 use ring_model::generator::Generator;
 use ring_model::record::{State, INSIDE, MAX_NODES, RECORD_WORDS};
 
+use crate::form::Form;
 use crate::identifiers::{identifiers, ring_size};
 
-/// The state of the ring that fresh founds with these identifiers, which differ.
-pub fn founded(names: &[u32]) -> State {
+/// The state of the ring that is founded in this form with these identifiers, which differ.
+pub fn founded(names: &[u32], form: Form) -> State {
     let mut words = vec![0; RECORD_WORDS];
-    let state = ring_model::fresh(&mut words, names).and_then(|()| State::read(&words));
+    let state = form.on_words(&mut words, names).and_then(|()| State::read(&words));
     state.expect("different identifiers found a ring")
 }
 
@@ -19,7 +20,7 @@ pub fn settled(generator: &mut Generator) -> State {
     let names = identifiers(generator, n);
     let mut clockwise: Vec<u32> = (0..n as u32).collect();
     clockwise.sort_by_key(|&node| names[node as usize]);
-    let mut state = founded(&names);
+    let mut state = founded(&names, Form::Smallest);
     for (place, &node) in clockwise.iter().enumerate() {
         let row = state.row_mut(node);
         row.state = INSIDE;

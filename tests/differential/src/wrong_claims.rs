@@ -9,6 +9,8 @@ use ring_model::record::{Message, Row, State, INSIDE, NONE};
 use ring_model::{Answer, Command};
 
 use crate::claims::Claims;
+use crate::form::Form;
+use crate::states::founded;
 
 type Verdict = Result<(), String>;
 
@@ -20,14 +22,18 @@ pub fn cases() -> Vec<(&'static str, bool)> {
     let mut cases = holders();
     cases.extend(questions());
     cases.extend(wrong_answers());
+    cases.extend(founders());
     let seen = |verdict: Verdict, words: &str| verdict.is_err_and(|what| what.contains(words));
     let broken = cases.into_iter().map(|(name, verdict, words)| (name, seen(verdict, words)));
-    broken.chain([("a sound ring is not found wrong", sound().is_ok())]).collect()
+    let sound = [
+        ("a sound ring is not found wrong", sound().is_ok()),
+        ("a ring by any founder is not found wrong", by_any_founder().is_ok()),
+    ];
+    broken.chain(sound).collect()
 }
 
 fn holders() -> Vec<Case> {
-    let founder = Claims::new(&[100, 200]);
-    let stranger = founder.judge(&state([1, 0], &[]));
+    let stranger = Claims::new(&[100, 200], 0).judge(&state([1, 0], &[]));
     let whole_at_0 = both().judge(&state([0, 0], &[]));
     let whole_at_1 = both().judge(&state([1, 1], &[]));
     vec![
@@ -56,6 +62,41 @@ fn wrong_answers() -> Vec<Case> {
     wrong.iter().map(case).collect()
 }
 
+/// Ledgers that start with another node than the founder, which has the smallest identifier, has
+/// not, or is not node 0: seen before any call, and in the first answer.
+fn founders() -> Vec<Case> {
+    let wrong = |ledger, founder| Claims::new(&NAMES, ledger).judge(&lone(founder));
+    let answered =
+        ask(&mut Claims::new(&NAMES, 0), Answer::found(FIRST, NAMES[FIRST as usize], 0, 0));
+    vec![
+        ("a ledger that starts with node 0", wrong(0, FIRST), "not in the ledger"),
+        ("a ledger that starts with the smallest", wrong(FIRST, 2), "not in the ledger"),
+        ("a ledger that starts with another than node 0", wrong(2, 0), "not in the ledger"),
+        ("a found answer of the founder, by another ledger", answered, "found names another"),
+    ]
+}
+
+/// Identifiers of which the smallest is node 1's.
+const NAMES: [u32; 3] = [200, 100, 300];
+const FIRST: u32 = 1;
+
+/// A fresh ring by this founder.
+fn lone(founder: u32) -> State {
+    founded(&NAMES, Form::By(founder))
+}
+
+/// The ledger starts with the founder: it holds, is found, and enters nobody else.
+fn by_any_founder() -> Verdict {
+    for founder in 0..3 {
+        let mut claims = Claims::new(&NAMES, founder);
+        claims.judge(&lone(founder))?;
+        ask(&mut claims, Answer::found(founder, 150, 0, 0))?;
+        claims.judge(&lone(founder))?;
+    }
+    let unnamed = founded(&NAMES, Form::Smallest);
+    Claims::new(&NAMES, FIRST).judge(&unnamed)
+}
+
 const LOOKED_UP: Message = Message { kind: LOOKUP, from: 0, to: 1, a: 7, b: 0, hops: 0 };
 /// Node 1 is inside already.
 const UNEXPECTED: Message = Message { kind: JOINPOINT, from: 0, to: 1, a: 0, b: 0, hops: 0 };
@@ -80,7 +121,7 @@ fn state(preds: [u32; 2], messages: &[Message]) -> State {
 
 /// A ledger that took in both nodes.
 fn both() -> Claims {
-    let mut claims = Claims::new(&[100, 200]);
+    let mut claims = Claims::new(&[100, 200], 0);
     let entered = claims.take_in(Command::new(DELIVER, 1, 0), &Answer::naming(ENTERED, 1));
     assert_eq!(entered, Ok(()), "an entered answer breaks no claim");
     claims
