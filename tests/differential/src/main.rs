@@ -1,6 +1,6 @@
-//! The engine beside the model of documents 01 and 02: the C calls on lent bytes, `ringrun` and `inspect`,
-//! on random and on hostile input. Every returned number, every byte of record and output, and the
-//! bytes around them are compared; runs from fresh are held to demand 3 as well.
+//! The engine beside the model of documents 01 and 02: the C calls on lent bytes, `ringrun` and
+//! `inspect`, on random and on hostile input. Every returned number, every byte of record and
+//! output, and the bytes around them are compared; runs from fresh are held to demand 3 as well.
 //!
 //! Usage, from the repository's folder: `differential SEED SECONDS`, or `differential SEED 0 PART
 //! BATCH` to run one batch again.

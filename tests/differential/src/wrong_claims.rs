@@ -62,30 +62,29 @@ fn wrong_answers() -> Vec<Case> {
     wrong.iter().map(case).collect()
 }
 
-/// Ledgers that start with another node than the founder, which has the smallest identifier, has
-/// not, or is not node 0: seen before any call, and in the first answer.
+/// Ledgers that start with another node than the founder: seen before any call, and in the first
+/// answer.
 fn founders() -> Vec<Case> {
     let wrong = |ledger, founder| Claims::new(&NAMES, ledger).judge(&lone(founder));
-    let answered =
-        ask(&mut Claims::new(&NAMES, 0), Answer::found(FIRST, NAMES[FIRST as usize], 0, 0));
+    let answered = ask(&mut Claims::new(&NAMES, 0), Answer::found(SMALLEST, 100, 0, 0));
     vec![
-        ("a ledger that starts with node 0", wrong(0, FIRST), "not in the ledger"),
-        ("a ledger that starts with the smallest", wrong(FIRST, 2), "not in the ledger"),
-        ("a ledger that starts with another than node 0", wrong(2, 0), "not in the ledger"),
+        ("a ledger that starts with node 0", wrong(0, SMALLEST), "not in the ledger"),
+        ("a ledger that starts with the smallest", wrong(SMALLEST, 2), "not in the ledger"),
+        ("a ledger that does not start with node 0", wrong(2, 0), "not in the ledger"),
         ("a found answer of the founder, by another ledger", answered, "found names another"),
     ]
 }
 
-/// Identifiers of which the smallest is node 1's.
+/// Identifiers of a ring in which node 1 has the smallest.
 const NAMES: [u32; 3] = [200, 100, 300];
-const FIRST: u32 = 1;
+const SMALLEST: u32 = 1;
 
 /// A fresh ring by this founder.
 fn lone(founder: u32) -> State {
     founded(&NAMES, Form::By(founder))
 }
 
-/// The ledger starts with the founder: it holds, is found, and enters nobody else.
+/// Whoever founds, a ledger that starts with it holds of the fresh ring and of its first answer.
 fn by_any_founder() -> Verdict {
     for founder in 0..3 {
         let mut claims = Claims::new(&NAMES, founder);
@@ -93,8 +92,7 @@ fn by_any_founder() -> Verdict {
         ask(&mut claims, Answer::found(founder, 150, 0, 0))?;
         claims.judge(&lone(founder))?;
     }
-    let unnamed = founded(&NAMES, Form::Smallest);
-    Claims::new(&NAMES, FIRST).judge(&unnamed)
+    Claims::new(&NAMES, SMALLEST).judge(&founded(&NAMES, Form::Smallest))
 }
 
 const LOOKED_UP: Message = Message { kind: LOOKUP, from: 0, to: 1, a: 7, b: 0, hops: 0 };

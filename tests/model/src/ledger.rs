@@ -23,7 +23,7 @@ pub struct Membership {
 
 impl Membership {
     /// The membership of the ring that this node founds with these
-    /// identifiers; a fresh call that names none is founded by the smallest.
+    /// identifiers; where the call names nobody, it is the smallest one's.
     pub fn new(identifiers: &[u32], founder: u32) -> Membership {
         Membership {
             identifiers: identifiers.to_vec(),

@@ -67,24 +67,25 @@ fn two_identifiers() {
     founds(&[u32::MAX, 1, 2], 1);
 }
 
-/// The smallest first, last, and at every place between; the largest last,
-/// first, or right before it.
+/// The smallest at every place, first and last among them; 0 and 4294967295
+/// side by side and far apart.
 #[test]
 fn sixty_four_identifiers() {
+    let ring: Vec<u32> = (0..64).map(|hub| 1000 + 7 * hub).collect();
     for smallest in 0..64 {
-        let mut ring: Vec<u32> = (0..64).map(|hub| 1000 + 7 * hub).collect();
-        ring[smallest] = 999;
-        founds(&ring, smallest);
-        ring[smallest] = 0;
-        ring[(smallest + 63) % 64] = u32::MAX;
-        founds(&ring, smallest);
-        ring.rotate_left(1);
-        founds(&ring, (smallest + 63) % 64);
+        let mut one_less = ring.clone();
+        one_less[smallest] = 999;
+        founds(&one_less, smallest);
+        for largest in [1, 32, 63].map(|on| (smallest + on) % 64) {
+            let mut ends = ring.clone();
+            ends[smallest] = 0;
+            ends[largest] = u32::MAX;
+            founds(&ends, smallest);
+        }
     }
+    founds(&ring, 0);
     let falling: Vec<u32> = (0..64).map(|hub| u32::MAX - hub).collect();
     founds(&falling, 63);
-    let rising: Vec<u32> = (0..64).collect();
-    founds(&rising, 0);
 }
 
 /// The last hub founds, the number behind it is none.
