@@ -4,108 +4,11 @@
  * AddressSanitizer sees the first byte that is read or written beside a buffer. Prints 'N passed, M failed'.
  */
 #include <stdio.h>
-#include <stdlib.h>
-#include <string.h>
 
-#include "ring.h"
-
-#define MARK 0xA5
-
-static unsigned passed, failed;
-static size_t guard; /* guard bytes on each side */
-
-static void expect(int holds, const char *what)
-{
-    if (holds) {
-        passed++;
-        return;
-    }
-    failed++;
-    printf("FAILED: %s\n", what);
-}
-
-/* A buffer of its very own size between two rows of guard bytes. */
-struct buffer {
-    uint8_t *all, *bytes;
-    size_t len;
-};
-
-static struct buffer lend(const uint8_t *content, size_t content_len, size_t len)
-{
-    struct buffer b = {malloc(guard + len + guard), NULL, len};
-    if (b.all == NULL) exit(2);
-    memset(b.all, MARK, guard + len + guard);
-    b.bytes = b.all + guard;
-    if (content_len != 0) memcpy(b.bytes, content, content_len < len ? content_len : len);
-    return b;
-}
-
-/* Whether the bytes from `from` on, and the guards, still hold the mark. */
-static int untouched(const struct buffer *b, size_t from)
-{
-    for (size_t i = 0; i < guard; i++)
-        if (b->all[i] != MARK || b->bytes[b->len + i] != MARK) return 0;
-    for (size_t i = from; i < b->len; i++)
-        if (b->bytes[i] != MARK) return 0;
-    return 1;
-}
-
-/* Whether nothing at all was written: the content it was lent with stands, and so do the marks behind it and the guards. */
-static int unchanged(const struct buffer *b, const uint8_t *content, size_t content_len)
-{
-    size_t same = content_len < b->len ? content_len : b->len;
-    return untouched(b, same) && (same == 0 || memcmp(b->bytes, content, same) == 0);
-}
-
-/* Lengths of a record around the least and around whole words. */
-static const size_t lengths[] = {0, 1, 3, 4, 7948, 7951, 7952, 7953, 7954, 7955, 7956, 9000};
-#define LENGTHS (sizeof lengths / sizeof *lengths)
+#include "buffers.h"
 
 static uint8_t ring[RING_RECORD_BYTES];
 static const uint8_t identifiers[8] = {100, 0, 0, 0, 200, 0, 0, 0};
-
-static void fresh_at_each_length(void)
-{
-    for (size_t k = 0; k < LENGTHS; k++) {
-        struct buffer b = lend(NULL, 0, lengths[k]), ids = lend(identifiers, sizeof identifiers, sizeof identifiers);
-        uint32_t refusal = ring_fresh(b.bytes, b.len, ids.bytes, ids.len);
-        int is_long = b.len >= RING_RECORD_BYTES;
-        expect(refusal == (is_long ? RING_OK : RING_RECORD_SHORT), "fresh: 1 below 7952 bytes");
-        expect(untouched(&b, is_long ? RING_RECORD_BYTES : 0), "fresh: bytes behind the record, or of a refused call");
-        expect(!is_long || memcmp(b.bytes, ring, sizeof ring) == 0, "fresh: the same record at every length");
-        expect(unchanged(&ids, identifiers, sizeof identifiers), "fresh: the identifiers stay");
-        free(b.all);
-        free(ids.all);
-    }
-}
-
-/* Founds a ring in b by the first `len` of these bytes, which are lent as a buffer of their own. */
-static uint32_t found(struct buffer *b, const uint8_t *many, size_t len)
-{
-    struct buffer ids = lend(many, len, len);
-    uint32_t refusal = ring_fresh(b->bytes, b->len, ids.bytes, ids.len);
-    expect(unchanged(&ids, many, len), "fresh: the identifiers stay");
-    free(ids.all);
-    return refusal;
-}
-
-static void fresh_by_identifiers(void)
-{
-    struct buffer b = lend(NULL, 0, RING_RECORD_BYTES);
-    uint8_t many[4 * 65 + 3];
-    for (size_t i = 0; i < sizeof many; i++) many[i] = (uint8_t)(i % 4 == 0 ? i / 4 : 0);
-    expect(found(&b, many, 0) == RING_IDENTIFIER_COUNT, "no identifier: 13");
-    expect(found(&b, many, 3) == RING_IDENTIFIER_COUNT, "three bytes are no identifier: 13");
-    expect(found(&b, many, 4 * 65) == RING_IDENTIFIER_COUNT, "65 identifiers: 13");
-    expect(found(&b, many, 4 * 65 + 3) == RING_IDENTIFIER_COUNT, "65 identifiers and three bytes: 13");
-    memset(many + 4, 0, 4);
-    expect(found(&b, many, 8) == RING_IDENTIFIER_TWICE, "the same twice: 14");
-    expect(untouched(&b, 0), "a refused fresh call writes nothing");
-    many[4] = 1;
-    expect(found(&b, many, 4 * 64 + 3) == RING_OK, "64 identifiers pass, three bytes left over");
-    expect(untouched(&b, b.len) && ring_word(b.bytes, 1) == 64, "n is 64");
-    free(b.all);
-}
 
 static void step_at_each_length(void)
 {
@@ -231,8 +134,7 @@ int main(void)
     if (ring_fresh(ring, sizeof ring, identifiers, sizeof identifiers) != RING_OK) return 2;
     for (size_t k = 0; k < 2; k++) {
         guard = guards[k];
-        fresh_at_each_length();
-        fresh_by_identifiers();
+        foundings();
         step_at_each_length();
         record_of_each_length();
         step_refused();

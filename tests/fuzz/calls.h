@@ -1,7 +1,7 @@
 /*
  * The calls under test, for the fuzzers. Each call is made on the engine that carries the fuzzer's counters and AddressSanitizer (traced_),
  * twice on the archive as it is shipped (ring_), and on the independent model (model_); all must do the same to the same bytes, and what
- * they do must be something that document 01 has. Anything else is a finding: it is printed and the program aborts.
+ * they do must be something that the documents have. Anything else is a finding: it is printed and the program aborts.
  */
 #ifndef CALLS_H
 #define CALLS_H
@@ -12,9 +12,11 @@
 #include "ring.h"
 
 uint32_t traced_fresh(uint8_t *words, size_t words_len, const uint8_t *identifiers, size_t identifiers_len);
+uint32_t traced_fresh_by(uint8_t *words, size_t words_len, const uint8_t *identifiers, size_t identifiers_len, uint32_t founder);
 uint32_t traced_step(uint8_t *words, size_t words_len, uint32_t operation, uint32_t x, uint32_t y, uint8_t *out, size_t out_len);
 uint32_t traced_owner(const uint8_t *words, size_t words_len, uint32_t number, uint8_t *out, size_t out_len);
 uint32_t model_fresh(uint8_t *words, size_t words_len, const uint8_t *identifiers, size_t identifiers_len);
+uint32_t model_fresh_by(uint8_t *words, size_t words_len, const uint8_t *identifiers, size_t identifiers_len, uint32_t founder);
 uint32_t model_step(uint8_t *words, size_t words_len, uint32_t operation, uint32_t x, uint32_t y, uint8_t *out, size_t out_len);
 uint32_t model_owner(const uint8_t *words, size_t words_len, uint32_t number, uint8_t *out, size_t out_len);
 
@@ -27,13 +29,21 @@ struct ring {
     size_t len, out_len;
 };
 
+/* What a ring is founded from. Where the founder is not named, the hub with the smallest identifier founds. */
+struct founding {
+    const uint8_t *identifiers;
+    size_t len;
+    int named;
+    uint32_t founder;
+};
+
 struct command {
     uint32_t operation, x, y;
 };
 
 void must(int holds, const char *what);
 void put_word(struct ring *ring, size_t i, uint32_t value);
-uint32_t checked_fresh(struct ring *ring, const uint8_t *identifiers, size_t identifiers_len);
+uint32_t checked_fresh(struct ring *ring, const struct founding *f);
 uint32_t checked_step(struct ring *ring, struct command c);
 uint32_t checked_owner(const struct ring *ring, uint32_t number);
 

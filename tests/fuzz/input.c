@@ -42,15 +42,22 @@ static void take_lengths(struct input *in, struct ring *ring)
     ring->out_len = outputs[lengths / 16 % 16];
 }
 
-static int take_fresh(struct input *in, struct ring *ring)
+static uint32_t take_founder(struct input *in)
+{
+    uint32_t founder = take_byte(in);
+    return founder < 128 ? founder : take_word(in);
+}
+
+static int take_fresh(struct input *in, struct ring *ring, int named)
 {
     uint8_t identifiers[4 * 66 + 3] = {0};
     uint32_t count = take_byte(in) % 66, scheme = take_byte(in);
+    struct founding f = {identifiers, 4 * count + scheme % 4, named, named ? take_founder(in) : 0};
     for (uint32_t i = 0; i < count; i++) {
         uint32_t id = scheme == 0 ? take_word(in) : scheme * (i + 1) * 0x9E3779B1u;
         for (uint32_t k = 0; k < 4; k++) identifiers[4 * i + k] = (uint8_t)(id >> 8 * k);
     }
-    return checked_fresh(ring, identifiers, 4 * count + scheme % 4) == RING_OK;
+    return checked_fresh(ring, &f) == RING_OK;
 }
 
 /* One row. Bit 5 of its byte leaves all fields as the input has them; otherwise they are made to fit the state. */
@@ -126,9 +133,10 @@ int take_ring(struct input *in, struct ring *ring)
     memset(ring->bytes, 0, sizeof ring->bytes);
     take_lengths(in, ring);
     switch (take_byte(in) % 4) {
+    case 0: return take_fresh(in, ring, 0);
+    case 1: return take_fresh(in, ring, 1);
     case 2: take_fields(in, ring); return 1;
-    case 3: take_bytes(in, ring); return 1;
-    default: return take_fresh(in, ring);
+    default: take_bytes(in, ring); return 1;
     }
 }
 

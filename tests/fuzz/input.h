@@ -3,7 +3,9 @@
  *
  *   lengths   1 byte: which lengths of record and output are lent (0: exact ones)
  *   mode      1 byte, modulo 4:
- *     0, 1    a fresh ring: count of identifiers, scheme, and with scheme 0 the identifiers, 4 bytes each
+ *     0       a ring from ring_fresh: count of identifiers, scheme, and with scheme 0 the identifiers, 4 bytes each
+ *     1       a ring from ring_fresh_by: count and scheme, then the founder, 1 byte, or from 128 on any number in the 4 bytes that follow
+ *             it, then the identifiers
  *     2       a record from small fields, most of which fit each other; then single words written over it
  *     3       a record as it is: 2 bytes of length, then so many bytes; the rest is 0
  *   commands  to the end: 1 byte of form, then what that form has (input.c)

@@ -107,18 +107,22 @@ static void say(const void *bytes, size_t len)
     text_len += len;
 }
 
-/* A founding that is read from the input like that of the other fuzzers, as a frame. */
+/* A founding that is read from the input like that of the other fuzzers, as a frame. A frame founds by hub 0: so does the ring beside it. */
 static void say_founding(struct input *in, struct ring *ring)
 {
     char frame[9];
+    uint8_t identifiers[4 * RING_MOST_HUBS];
+    size_t i = 0;
     if (!take_ring(in, ring)) return;
-    uint32_t n = ring_word(ring->bytes, 1);
     say("F0", 2);
-    for (size_t i = 0; i < n && i < 64; i++) {
-        snprintf(frame, sizeof frame, "%08X", (unsigned)ring_word(ring->bytes, 4 + 7 * i));
+    for (; i < ring_word(ring->bytes, 1) && i < RING_MOST_HUBS; i++) {
+        const uint8_t *row = ring->bytes + 4 * (4 + 7 * i);
+        snprintf(frame, sizeof frame, "%08X", (unsigned)ring_word(row, 0));
         say(frame, 8);
+        memcpy(identifiers + 4 * i, row, 4);
     }
     say("\n", 1);
+    ring_fresh_by(ring->bytes, ring->len, identifiers, 4 * i, 0);
 }
 
 /* Commands as frames. A ring beside them takes the same steps, so that links with a waiting message can be chosen. */

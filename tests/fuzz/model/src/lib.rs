@@ -13,6 +13,15 @@ pub unsafe extern "C" fn model_fresh(words: *mut u8, words_len: usize, identifie
     bytes::ring_fresh(from_raw_parts_mut(words, words_len), from_raw_parts(identifiers, identifiers_len))
 }
 
+/// `ring_fresh_by` as the model has it.
+///
+/// # Safety
+/// As for `model_fresh`.
+#[no_mangle]
+pub unsafe extern "C" fn model_fresh_by(words: *mut u8, words_len: usize, identifiers: *const u8, identifiers_len: usize, founder: u32) -> u32 {
+    bytes::ring_fresh_by(from_raw_parts_mut(words, words_len), from_raw_parts(identifiers, identifiers_len), founder)
+}
+
 /// `ring_step` as the model has it.
 ///
 /// # Safety

@@ -1,0 +1,40 @@
+/*
+ * What the tests of the C calls share: what was expected is counted, and each buffer is lent at its very own size, between two rows of guard
+ * bytes where there are any.
+ */
+#ifndef BUFFERS_H
+#define BUFFERS_H
+
+#include <stddef.h>
+#include <stdint.h>
+#include <stdlib.h>
+#include <string.h>
+
+#include "ring.h"
+
+extern unsigned passed, failed;
+extern size_t guard; /* guard bytes on each side */
+
+void expect(int holds, const char *what);
+
+struct buffer {
+    uint8_t *all, *bytes;
+    size_t len;
+};
+
+struct buffer lend(const uint8_t *content, size_t content_len, size_t len);
+
+/* Whether the bytes from `from` on, and the guards, still hold the mark. */
+int untouched(const struct buffer *b, size_t from);
+
+/* Whether nothing at all was written: the content it was lent with stands, and so do the marks behind it and the guards. */
+int unchanged(const struct buffer *b, const uint8_t *content, size_t content_len);
+
+/* Lengths of a record around the least and around whole words. */
+#define LENGTHS 12
+extern const size_t lengths[LENGTHS];
+
+/* The tests of the calls that found a ring (founding.c). */
+void foundings(void);
+
+#endif
