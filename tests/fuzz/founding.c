@@ -15,15 +15,18 @@ static const struct forms shipped = {ring_fresh, ring_fresh_by};
 static const struct forms traced = {traced_fresh, traced_fresh_by};
 static const struct forms model = {model_fresh, model_fresh_by};
 
-/* How often each form returned each number, for the last lines of a run: tests/fuzz/run asks them of the seeds. */
+/* How often each form returned each number, for the last lines of a run. tests/fuzz/run looks there whether the seeds reach them all. */
 static unsigned long long returned[2][RING_NO_FOUNDER + 1];
 
 static void say_returned(void)
 {
     static const char *const names[2] = {"ring_fresh", "ring_fresh_by"};
-    for (unsigned form = 0; form < 2; form++)
+    for (unsigned form = 0; form < 2; form++) {
+        fprintf(stderr, "calls of %s by return", names[form]);
         for (unsigned code = 0; code <= RING_NO_FOUNDER; code++)
-            if (returned[form][code] != 0) fprintf(stderr, "calls of %s that returned %u: %llu\n", names[form], code, returned[form][code]);
+            if (returned[form][code] != 0) fprintf(stderr, ", %u: %llu", code, returned[form][code]);
+        fprintf(stderr, "\n");
+    }
 }
 
 static void count_founding(int named, uint32_t code)

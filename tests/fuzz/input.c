@@ -130,7 +130,8 @@ static void take_bytes(struct input *in, struct ring *ring)
 
 int take_ring(struct input *in, struct ring *ring)
 {
-    memset(ring->bytes, 0, sizeof ring->bytes);
+    memset(ring->bytes, 0, RING_RECORD_BYTES);
+    memset(ring->bytes + RING_RECORD_BYTES, 0xC3, MOST_BYTES - RING_RECORD_BYTES); /* a 0 that is written there would be seen */
     take_lengths(in, ring);
     switch (take_byte(in) % 4) {
     case 0: return take_fresh(in, ring, 0);

@@ -7,7 +7,7 @@
  *     1       a ring from ring_fresh_by: count and scheme, then the founder, 1 byte, or from 128 on any number in the 4 bytes that follow
  *             it, then the identifiers
  *     2       a record from small fields, most of which fit each other; then single words written over it
- *     3       a record as it is: 2 bytes of length, then so many bytes; the rest is 0
+ *     3       a record as it is: 2 bytes of length, then so many bytes; the rest of the record is 0
  *   commands  to the end: 1 byte of form, then what that form has (input.c)
  */
 #ifndef INPUT_H

@@ -3,7 +3,7 @@
 
 use ring_model::generator::Generator;
 use ring_model::record::State;
-use ring_model::step::{fresh, step_state};
+use ring_model::step::{fresh_by, step_state};
 use ring_model::RECORD_WORDS;
 
 use crate::records::identifier;
@@ -16,7 +16,8 @@ const WAITING: usize = 24;
 pub fn frames(count: usize) -> Vec<u8> {
     let identifiers: Vec<u32> = (0..HUBS).map(|hub| identifier(HUBS, hub)).collect();
     let mut words = vec![0; RECORD_WORDS];
-    fresh(&mut words, &identifiers).expect("fresh is accepted");
+    // As the first frame does it: by hub 0.
+    fresh_by(&mut words, &identifiers, 0).expect("fresh is accepted");
     let mut state = State::read(&words).expect("the record reads");
     let mut generator = Generator::new(2);
     let mut text = String::from("F0");

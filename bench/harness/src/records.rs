@@ -9,7 +9,7 @@ const LEAVE: u32 = 2;
 const DELIVER: u32 = 3;
 
 /// Hub i's identifier: the hubs stand clockwise in the order of their numbers,
-/// spread over the whole circle.
+/// spread over the whole circle. Hub 0 has the smallest, so it founds.
 pub fn identifier(n: u32, hub: u32) -> u32 {
     ((u64::from(hub) << 32) / u64::from(n)) as u32 + 1000
 }

@@ -1,7 +1,7 @@
 //! Frames of `ringrun`: one line in, one line out (document 01).
 
 use crate::record::MOST_HUBS;
-use crate::{fresh, step, Answer, Fields};
+use crate::{fresh_by, step, Answer, Fields};
 
 /// The longest frame that reads: `F0` and 64 identifiers of 8 digits.
 pub const MOST_DIGITS: usize = 514;
@@ -46,7 +46,10 @@ fn outcome(line: &[u8], words: &mut [u32]) -> Option<Result<Answer, u32>> {
         *number = hexadecimal(digits)?;
     }
     match (hexadecimal(head)?, rest.len()) {
-        (0xF0, digits) => Some(fresh(words, &numbers[..digits / 8]).map(|()| Answer::default())),
+        // A frame founds by hub 0, wherever the smallest identifier stands.
+        (0xF0, digits) => {
+            Some(fresh_by(words, &numbers[..digits / 8], 0).map(|()| Answer::default()))
+        }
         (operation, 16) => Some(step::<Fields, _>(words, operation, numbers[0], numbers[1])),
         _ => None,
     }

@@ -37,5 +37,5 @@ pub use fields::Fields;
 pub use queries::owner;
 pub use ranges::Ranges;
 pub use record::RECORD_WORDS;
-pub use step::{fresh, step};
+pub use step::{fresh, fresh_by, step};
 pub use well_formed::well_formed;

@@ -32,3 +32,5 @@ pub const IDENTIFIER_TWICE: u32 = 14;
 pub const NO_HOLDER: u32 = 15;
 /// The output is too short.
 pub const OUTPUT_SHORT: u32 = 17;
+/// The founder named is not below the hub count (document 02, 2026-02).
+pub const NO_FOUNDER: u32 = 18;

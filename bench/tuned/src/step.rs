@@ -16,8 +16,16 @@ use crate::routing::next_hub;
 use crate::well_formed::repeats;
 use crate::word::Word;
 
-/// Founds a ring: hub 0 inside, the others outside, no message.
+/// Founds a ring: the hub with the smallest identifier inside, the others
+/// outside, no message (document 02, 2026-02).
 pub fn fresh<W: Word>(words: &mut [W], identifiers: &[W]) -> Result<(), u32> {
+    // Of no identifier at all, any place will do: that list is refused.
+    let smallest = (0..identifiers.len()).min_by_key(|&hub| identifiers[hub].get());
+    fresh_by(words, identifiers, smallest.unwrap_or(0) as u32)
+}
+
+/// The same, by the hub that is named.
+pub fn fresh_by<W: Word>(words: &mut [W], identifiers: &[W], founder: u32) -> Result<(), u32> {
     let record = words.get_mut(..RECORD_WORDS).ok_or(refusal::RECORD_SHORT)?;
     let n = identifiers.len();
     if n == 0 || n > MOST_HUBS {
@@ -30,6 +38,9 @@ pub fn fresh<W: Word>(words: &mut [W], identifiers: &[W]) -> Result<(), u32> {
     if repeats(&numbers, n) {
         return Err(refusal::IDENTIFIER_TWICE);
     }
+    if founder >= n as u32 {
+        return Err(refusal::NO_FOUNDER);
+    }
     record.fill(W::of(0));
     record[0] = W::of(FORM);
     record[N] = W::of(n as u32);
@@ -39,9 +50,10 @@ pub fn fresh<W: Word>(words: &mut [W], identifiers: &[W]) -> Result<(), u32> {
         let zero = W::of(0);
         row.copy_from_slice(&[identifier, zero, zero, zero, none, none, none]);
     }
-    record[ROWS + 1] = W::of(INSIDE);
-    record[ROWS + 4] = W::of(0);
-    record[ROWS + 5] = W::of(0);
+    let row = ROWS + ROW_WORDS * founder as usize;
+    record[row + 1] = W::of(INSIDE);
+    record[row + 4] = W::of(founder);
+    record[row + 5] = W::of(founder);
     Ok(())
 }
 

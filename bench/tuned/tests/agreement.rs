@@ -78,18 +78,39 @@ fn owner_agrees<C: Check>(words: &[u32], key: u32, expected: (u32, [u8; 23])) {
     assert_eq!((number, out), expected);
 }
 
-fn fresh_words(identifiers: &[u32]) -> Vec<u32> {
+/// A founding of both models, by the smallest identifier or by the hub that is
+/// named; the record afterwards, also where it was refused.
+fn fresh_words(identifiers: &[u32], named: Option<u32>) -> Vec<u32> {
     let mut words = vec![9; RECORD_WORDS + 2];
     let mut expected = words.clone();
-    let outcome = ring_model::fresh(&mut expected, identifiers);
-    assert_eq!(ring_tuned::fresh(&mut words, identifiers), outcome);
+    let (outcome, tuned_outcome) = match named {
+        None => (
+            ring_model::fresh(&mut expected, identifiers),
+            ring_tuned::fresh(&mut words, identifiers),
+        ),
+        Some(founder) => (
+            ring_model::fresh_by(&mut expected, identifiers, founder),
+            ring_tuned::fresh_by(&mut words, identifiers, founder),
+        ),
+    };
+    assert_eq!(tuned_outcome, outcome);
     assert!(words == expected);
     words
 }
 
+/// A founding by each form; the named founder is any hub, or beside the last.
+fn founded_both_ways(generator: &mut Generator, identifiers: &[u32]) {
+    let n = identifiers.len() as u32;
+    fresh_words(identifiers, None);
+    for founder in [0, generator.below(n + 1), n, n + 1, 255, 256, u32::MAX] {
+        fresh_words(identifiers, Some(founder));
+    }
+}
+
 fn run_from_fresh(generator: &mut Generator, n: usize, mix: Mix, calls: usize) {
     let names = identifiers(generator, n);
-    let mut words = fresh_words(&names);
+    let named = generator.chance(50).then(|| generator.below(n as u32));
+    let mut words = fresh_words(&names, named);
     for _ in 0..calls {
         let state = State::read(&words).expect("the record reads");
         words = agreed_step(&words, command(generator, mix, &state));
@@ -114,18 +135,19 @@ fn founding() {
     let mut generator = Generator::new(50);
     for n in 0..=66 {
         let mut names: Vec<u32> = (0..n).map(|_| generator.next_u32()).collect();
-        fresh_words(&names);
+        founded_both_ways(&mut generator, &names);
         for _ in 0..40 {
             let (one, other) = (generator.below(n), generator.below(n));
             if n > 0 {
                 names[one as usize] = names[other as usize];
-                fresh_words(&names);
+                founded_both_ways(&mut generator, &names);
                 names[one as usize] = generator.next_u32();
             }
         }
     }
     let mut short = [0; RECORD_WORDS - 1];
     assert_eq!(ring_tuned::fresh(&mut short, &[1]), Err(1));
+    assert_eq!(ring_tuned::fresh_by(&mut short, &[1, 1], 2), Err(1));
 }
 
 /// A record from anywhere among the well-formed ones.
@@ -193,7 +215,7 @@ fn short_buffers() {
 }
 
 fn short_buffers_agree<C: Check>() {
-    let words = bytes_of(&fresh_words(&[5, 9]));
+    let words = bytes_of(&fresh_words(&[5, 9], None));
     for (words_len, out_len) in [(7952, 19), (7951, 20), (0, 20), (7951, 0), (7952, 3)] {
         let mut short = words[..words_len].to_vec();
         let mut fours = fours_of(&short);
