@@ -41,7 +41,10 @@ static void say_answer(const uint8_t *out)
            (unsigned)ring_word(out, 3), (unsigned)ring_word(out, 4));
 }
 
-/* 'F0' and identifiers of 8 digits. */
+/*
+ * 'F0' and identifiers of 8 digits. The founder is named, hub 0, wherever the smallest identifier stands: a frame has no place for one, and
+ * those who send frames rely on the first hub. A server without such users takes ring_fresh.
+ */
 static int found_ring(const char *line, size_t length)
 {
     static const uint8_t quiet[RING_ANSWER_BYTES];
@@ -53,8 +56,6 @@ static int found_ring(const char *line, size_t length)
         if (!number(line + 2 + 8 * i, 8, &v)) return 0;
         for (size_t k = 0; k < 4; k++) identifiers[4 * i + k] = (uint8_t)(v >> 8 * k);
     }
-    /* Hub 0 founds, wherever the smallest identifier stands: a frame has no place for a founder, and those who send frames rely on the first
-     * hub. A server without such users takes ring_fresh. */
     uint32_t refusal = ring_fresh_by(words, sizeof words, identifiers, 4 * count, 0);
     if (refusal != RING_OK) say_refused(refusal);
     else say_answer(quiet);

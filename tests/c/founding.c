@@ -126,10 +126,10 @@ static void by_identifiers(struct form form)
     }
 }
 
-/* Two equal ones anywhere, also the smallest of all or the founder's own. */
+/* The smallest identifier twice: the last hub's, and that of each other hub in turn, the founder too. */
 static void twice_at_each_place(struct form form)
 {
-    for (size_t other = 0; other < RING_MOST_HUBS - 1; other += 7) {
+    for (size_t other = 0; other < RING_MOST_HUBS - 1; other++) {
         struct list list = falling(RING_MOST_HUBS);
         memcpy(list.bytes + 4 * other, list.bytes + 4 * (RING_MOST_HUBS - 1), 4);
         refuses(&list, RING_RECORD_BYTES, form, RING_IDENTIFIER_TWICE, "the smallest twice: 14");
@@ -169,7 +169,7 @@ static void smallest_of_few(void)
 {
     static const uint32_t ones[] = {0, 1, 2147483648u, 4294967295u};
     static const uint32_t pairs[][2] = {{0, 4294967295u}, {0, 1}, {4294967294u, 4294967295u}, {2147483647u, 2147483648u},
-                                        {2, 16777217u},   {255, 256}, {65535, 4294901760u}};
+                                        {2, 16777217u}, {255, 256}, {65535, 4294901760u}};
     for (size_t k = 0; k < COUNT(ones); k++) {
         struct list list = of(&ones[k], 1);
         smallest_is(&list, 0);

@@ -1,6 +1,6 @@
 /*
- * Fuzzes ring_step (and ring_fresh and ring_fresh_by): a record from the input, then its commands one after the other, each on what the one before left; at
- * last one command more on buffers of lengths around the least.
+ * Fuzzes ring_step, and the two calls that found a ring: a record from the input, then its commands one after the other, each on what the one
+ * before left; at last one command more on buffers of lengths around the least.
  */
 #include "input.h"
 
