@@ -3,28 +3,29 @@
 use mathlib.Core.Path.{_≡_, refl, sym, _∙_, ap, subst}
 use mathlib.Core.Logic.{_≢_}
 use mathlib.Core.Bool.{true, false, not, _&&_, _||_}
-use mathlib.Core.List.{List, _++_}
-use Prim.Native.Nat.{ℕ, _<_}
+use mathlib.Core.List.{List, [], _∷_, _++_}
+use Prim.Native.Nat.{ℕ, _≤_, _<_}
 use native.Mathlib.Omega.{arith}
 use lib.Dec.{leb, ltb, eqb, leb→le, eqb-refl, lt→ltb}
 use lib.ListN.{length, getD}
 use borrow.Author.Tests.{lt-ltb}
 use Rattle.clockwise.specs.Clockwise.{dist, within}
-use Rattle.lists.specs.Basics.{if_then_else_, require, distinct, first}
+use Rattle.lists.specs.Basics.{if_then_else_, require, every, distinct, first}
 use Rattle.lists.specs.Choice.{on-yes, on-no, tested, granted}
 use Rattle.lists.specs.Tests.{T-true, and-left, says-distinct}
 use Rattle.protocol.specs.declared.Route.the-variants.{Own, To}
 use Rattle.protocol.specs.declared.Answer.the-variants.{Quiet, Found}
 use Rattle.protocol.specs.declared.Outcome.{Outcome}
 use Rattle.protocol.specs.declared.Outcome.the-variants.{Refused, Answered}
-use Rattle.protocol.specs.Names.{LAST-HUB, NO-MESSAGE, NOT-IN-RING, NO-FOUNDER}
-use Rattle.protocol.specs.Record.{round, mostNodes, State, count, row, identifier, ticketed, words}
+use Rattle.protocol.specs.Names.{IDENTIFIER-COUNT, IDENTIFIER-TWICE, LAST-HUB, NO-FOUNDER, NO-MESSAGE, NOT-IN-RING}
+use Rattle.protocol.specs.Record.{round, mostNodes, recordSize, State, count, row, identifier, ticketed, words}
 use Rattle.protocol.specs.Fresh.{smallest, alone, fresh}
 use Rattle.protocol.specs.Routing.{inRing, covers, onward}
 use Rattle.protocol.specs.Step as step
 use Rattle.protocol.specs.Step.{Result, refused, accepted, asking}
 use Rattle.protocol.specs.Calls.{Called, long, written, freshCall, freshByCall}
 use Rattle.layout.specs.Founder.{smallest-least}
+use Rattle.layout.specs.Questions.{long-yes}
 use Rattle.atomicity.specs.Preserved.{fresh-form, length-founded}
 use Rattle.atomicity.specs.Run.{row-f, row-off}
 use Rattle.atomicity.specs.Demand3.{Call, present, called}
@@ -49,6 +50,18 @@ never-18 w ids =
 
     other : {k : ℕ} → Refused k ≡ Refused NO-FOUNDER → k < NO-FOUNDER → ⊥
     other e l = omega (arith, ap numberOf e)
+
+-- Question 18 is the last one: an empty list and one with a repeated identifier are refused before it.
+pub in-order : (w : List ℕ) → recordSize ≤ length w
+    → (freshByCall w [] 0 .outcome ≡ Refused IDENTIFIER-COUNT)
+    × (freshByCall w (100 ∷ 100 ∷ []) 2 .outcome ≡ Refused IDENTIFIER-TWICE)
+    × (freshByCall w (100 ∷ 200 ∷ []) 2 .outcome ≡ Refused NO-FOUNDER)
+unfolding freshByCall require if_then_else_ distinct every
+in-order w l = (
+  ap (λ (z : Called). z .outcome) (on-yes _ _ _ (long-yes w l)),
+  ap (λ (z : Called). z .outcome) (on-yes _ _ _ (long-yes w l)),
+  ap (λ (z : Called). z .outcome) (on-yes _ _ _ (long-yes w l)),
+)
 
 -- The first calls, on the record w.
 pub record First (ids : List ℕ) (founder : ℕ) (w : List ℕ) : Type 0 where
