@@ -1,12 +1,13 @@
-// Who founds a ring where the caller names nobody, and the row that a founder has.
+// Who founds a ring, and the row that it then has.
+use protocol::Founder;
 use protocol::Row;
 use protocol::form::NONE;
 use protocol::states;
 ghost use mathlib.Core.Path.{_≡_};
-ghost use Rattle.protocol.specs.Fresh.{alone, smallest as smallestSpec};
+ghost use Rattle.protocol.specs.Fresh.{alone, founderOf, smallest as smallestSpec};
 
 // The node with the smallest identifier; 0 where there is none.
-pub fn smallest(identifiers: &[u32]) -> usize
+fn smallest(identifiers: &[u32]) -> usize
     ensures { λ r. ⌜ r ≡ smallestSpec (now (identifiers .entry)) ⌝ }
 {
     let mut node = 0;
@@ -18,6 +19,16 @@ pub fn smallest(identifiers: &[u32]) -> usize
         i += 1;
     }
     node
+}
+
+// The node that the caller means; one that is named need not be there.
+pub fn founding_node(founder: Founder, identifiers: &[u32]) -> usize
+    ensures { λ r. ⌜ r ≡ founderOf founder (now (identifiers .entry)) ⌝ }
+{
+    match founder {
+        Founder::Smallest => smallest(identifiers),
+        Founder::Named(node) => node as usize,
+    }
 }
 
 // The row of the only node of a ring, which comes before and after itself.

@@ -5,6 +5,8 @@ use lib.Dec.{leb}
 use lib.ListN.{length, getD, set}
 use Rattle.lists.specs.Basics.{first, every}
 use Rattle.protocol.specs.declared.Row.{Row}
+use Rattle.protocol.specs.declared.Founder.{Founder}
+use Rattle.protocol.specs.declared.Founder.the-variants.{Smallest, Named}
 use Rattle.protocol.specs.Names.{INSIDE}
 use Rattle.protocol.specs.Record.{none, State, outside}
 
@@ -12,6 +14,11 @@ use Rattle.protocol.specs.Record.{none, State, outside}
 -- such hubs the lowest number; where identifiers differ there is one.)
 unfoldable pub smallest : List ℕ → ℕ
 smallest ids = first (λ hub. every (leb (getD ids hub 0)) ids) (length ids)
+
+-- The founder that a caller means.
+abbrev pub founderOf : Founder → List ℕ → ℕ
+founderOf Smallest ids = smallest ids
+founderOf (Named hub) ids = hub
 
 -- 'inside, unlocked, its own pred and succ'
 abbrev pub alone : ℕ → ℕ → Row

@@ -64,6 +64,12 @@ pub enum Decision {
     Send(Row, Message, Answer),
 }
 
+// Who founds a ring: the node with the smallest identifier, or the one that the caller names.
+pub enum Founder {
+    Smallest,
+    Named(u32),
+}
+
 // What the owner query gives: the node that holds the key, or the number of a refusal.
 pub enum Ownership {
     Refused(u32),

@@ -1,4 +1,3 @@
-pub mod Founder
 pub mod First
 pub mod Carry
 pub mod Results

@@ -5,10 +5,10 @@ mod foundings;
 mod results;
 
 use crate::bytes::loaded;
-use crate::foundings::Founder;
 use crate::foundings::found;
 use crate::results::finish;
 use crate::results::finish_owner;
+use protocol::Founder;
 use protocol::form::RECORD_BYTES;
 use protocol::refusals;
 ghost use mathlib.Core.Path.{_≡_};

@@ -37,24 +37,28 @@ returns-3 c =
       ne-eqb _ _ (c .if3 .taken),
     )
 
+founding-node-requires : tie.Need-founding-node-requires
+founding-node-requires c κs = search needs
+
 returns-4 : tie.Need-returns-4
 unfolding freshByCall long require if_then_else_
 returns-4 c =
-    let r = c .before .before in
+    let r = c .before .before .before in
     let b = r .before .before in
     simp (
       le-leb _ _ (b .before .if1 .left),
       ← b .both .ensures,
       not-false (b .both .result) (r .before .if2 .left),
       ← differ (b .before .before .before .before .args .identifiers .now) (r .repeated .result) (r .repeated .ensures),
-      eq-eqb _ _ (c .before .if3 .left),
+      eq-eqb _ _ (c .before .before .if3 .left),
+      ← c .before .founding-node .ensures,
       le-ltb _ _ (c .if4 .taken),
     )
 
 write-fresh-requires : tie.Need-write-fresh-requires
 write-fresh-requires c κs =
-    let b = c .before .before .before .before .before in
-    let k = some-few (length (b .before .before .before .before .args .identifiers .now)) (sym (b .both .ensures) ∙ not-false (b .both .result) (c .before .before .before .before .if2 .left)) in
+    let b = c .before .before .before .before .before .before in
+    let k = some-few (length (b .before .before .before .before .args .identifiers .now)) (sym (b .both .ensures) ∙ not-false (b .both .result) (c .before .before .before .before .before .if2 .left)) in
     (c .before .if4 .left, k .1, omega arith)
 
 same-length : tie.Need-same-length
@@ -63,14 +67,16 @@ same-length c = search needs
 returns-5 : tie.Need-returns-5
 unfolding freshByCall long written require if_then_else_
 returns-5 c =
-    let r = c .before .before .before .before .before .before in
+    let n = c .before .before .before .before .before in
+    let r = n .before .before in
     let b = r .before .before in
     simp (
       le-leb _ _ (b .before .if1 .left),
       ← b .both .ensures,
       not-false (b .both .result) (r .before .if2 .left),
       ← differ (b .before .before .before .before .args .identifiers .now) (r .repeated .result) (r .repeated .ensures),
-      eq-eqb _ _ (c .before .before .before .before .before .if3 .left),
+      eq-eqb _ _ (n .before .if3 .left),
+      ← n .founding-node .ensures,
       lt-ltb _ _ (c .before .before .before .before .if4 .left),
       c .before .before .write-fresh .ensures,
     )
@@ -84,6 +90,7 @@ found-spec =
     returns-2
     repeated-requires
     returns-3
+    founding-node-requires
     returns-4
     write-fresh-requires
     same-length

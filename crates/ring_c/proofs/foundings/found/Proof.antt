@@ -1,4 +1,4 @@
--- `found` meets its contract: a fresh call on other words is one on the lent words, and writing the record is writing all of them. Assumes nothing.
+-- `foundings::found` meets its contract: a fresh call on other words is one on the lent words, and writing the record is writing all of them. Assumes nothing.
 use mathlib.Core.Path.{sym, _∙_}
 use Prim.Native.Nat.{ℕ, _/_}
 use lib.ListN.{length, replicate, length-replicate}
@@ -7,7 +7,7 @@ use native.Mathlib.Omega.{arith}
 use Rattle.lists.specs.Basics.{All}
 use Rattle.lists.specs.Members.{all-at}
 use Rattle.ring_c.specs.Carry.{wordAt}
-use Rattle.ring_c.specs.Founder.{founderOf}
+use Rattle.protocol.specs.Fresh.{founderOf}
 use Rattle.ring_c.specs.Results.{words-all, fresh-1, fresh-13, fresh-rest}
 use borrow.Author.Needs.{needs}
 use Rattle.ring_c.proofs.foundings.found.Statement.{statement}
@@ -31,17 +31,17 @@ slice-aggregate-load c = search needs
 load-requires : tie.Need-load-requires
 load-requires c κs = search needs
 
-slice-aggregate-fresh : tie.Need-slice-aggregate-fresh
-slice-aggregate-fresh c = search needs
+slice-aggregate-found : tie.Need-slice-aggregate-found
+slice-aggregate-found c = search needs
 
 array-share-prefix-ids : tie.Need-array-share-prefix-ids
 array-share-prefix-ids c = search needs
 
-slice-aggregate-fresh-2 : tie.Need-slice-aggregate-fresh-2
-slice-aggregate-fresh-2 c = rw (c .before .before .before .load .ensures) (sym (length-table (length (c .before .before .before .before .before .before .before .before .before .args .identifiers .now) / 4) (wordAt (c .before .before .before .before .before .before .before .before .before .args .identifiers .now))))
+slice-aggregate-found-2 : tie.Need-slice-aggregate-found-2
+slice-aggregate-found-2 c = rw (c .before .before .before .load .ensures) (sym (length-table (length (c .before .before .before .before .before .before .before .before .before .args .identifiers .now) / 4) (wordAt (c .before .before .before .before .before .before .before .before .before .args .identifiers .now))))
 
-fresh-requires : tie.Need-fresh-requires
-fresh-requires c κs = search needs
+found-requires : tie.Need-found-requires
+found-requires c κs = search needs
 
 slice-aggregate-finish-fresh : tie.Need-slice-aggregate-finish-fresh
 slice-aggregate-finish-fresh c = search needs
@@ -59,7 +59,7 @@ returns-3 c =
     let bytes : All Byte b = all-at Byte b 0 (λ i h. omega (arith, c .before .before .before .before .before .before .before .before .before .before .before .before .before .before .before .slice-known .given i)) in
     let ids = a .identifiers .now in
     fresh-rest b ids (founderOf (a .founder) (wordsOf ids)) bytes (omega arith) (omega arith) (replicate 1988 0) (length-replicate {A = ℕ} 1988 0) _ _
-    (rw words-all (rw (c .before .before .before .before .before .before .before .before .before .before .load .ensures) at (c .before .before .before .before .before .before .fresh .ensures)))
+    (rw words-all (rw (c .before .before .before .before .before .before .before .before .before .before .load .ensures) at (c .before .before .before .before .before .before .found .ensures)))
     ∙ c .before .before .finish-fresh .ensures
 
 pub found-spec : {M : Type 1} → statement M
@@ -70,10 +70,10 @@ found-spec =
     returns-2
     slice-aggregate-load
     load-requires
-    slice-aggregate-fresh
+    slice-aggregate-found
     array-share-prefix-ids
-    slice-aggregate-fresh-2
-    fresh-requires
+    slice-aggregate-found-2
+    found-requires
     slice-aggregate-finish-fresh
     finish-fresh-requires
     same-length
