@@ -8,7 +8,7 @@
 #define NONE 255u
 #define COUNT(list) (sizeof(list) / sizeof *(list))
 
-/* How a ring is founded: by the hub with the smallest identifier, or by the one that is named. */
+/* How a ring is founded: no founder is named, or this one. */
 struct form {
     int named;
     uint32_t founder;

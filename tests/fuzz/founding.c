@@ -60,7 +60,7 @@ static uint32_t smallest(const struct founding *f)
     return place;
 }
 
-/* A ring just founded: the founder alone is inside, its own pred and succ; the others are outside; nothing was asked, nothing waits. */
+/* A ring just founded: one hub is in it and points at itself, the founder; nothing was asked, nothing waits. */
 static void must_be_founded(const uint8_t *words, const struct founding *f)
 {
     uint32_t n = (uint32_t)(f->len / 4), founder = f->named ? f->founder : smallest(f);

@@ -80,7 +80,8 @@ intervals =
     ∷ interval 7 7 7 true
     ∷ []
 
--- Last hub leaves: 8. Empty link: 9. Ask at an outside hub: 5. Outside hub joins through itself: 5. Hub 0 founds, by its identifier or by name.
+-- The only hub stays (8), nothing waits on its link (9); a hub that is outside is not asked (5) and does not join through itself (5). Hub 0
+-- founds these rings, by its identifier or by name.
 abbrev pub refused : (List ℕ → List Call → List Outcome → Probe) → List Probe
 refused begun =
     begun (100 ∷ []) (leave 0 ∷ []) (quiet ∷ Refused LAST-HUB ∷ [])

@@ -15,7 +15,7 @@ ghost use mathlib.Core.Path.{_≡_};
 ghost use Rattle.protocol.specs.Calls.{freshCall, freshByCall};
 ghost use Rattle.protocol.specs.Fresh.{founderOf};
 
-// A ring founded by the node with the smallest identifier, for callers who do not know which node is there first.
+// A ring founded by the node with the smallest identifier, wherever it stands in the list.
 pub fn fresh(w: &mut [u32], identifiers: &[u32]) -> Outcome
     ensures { λ r. ⌜ freshCall (now (w .entry)) (now (identifiers .entry)) ≡ record { outcome = r; slice = now (w .exit) } ⌝ }
 {

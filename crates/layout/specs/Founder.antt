@@ -85,7 +85,7 @@ module _ (ids : List ℕ) where
       empty : ¬ (0 < length ids) → length ids ≡ 0
       empty none = omega arith
 
-  -- There is one among the first n, and so among all.
+  -- There is one among the first hubs, however many, and so among all.
   least-among : (n : ℕ) → (hub : ℕ) × Least (n + 1) hub
   least-among zero = (0, least-one)
   least-among (suc n) =

@@ -1,5 +1,5 @@
 -- Document 01, 'Ledger and holders': the ledger (here: the membership), holders and the counts of questions.
--- It is fed these answers, the identifiers that the fresh call was given and the founder, and nothing of the record.
+-- All that it is fed are these answers, the identifiers and who founded the ring: nothing of the record.
 use mathlib.Core.Bool.{Bool, _&&_}
 use mathlib.Core.List.{List, [], _∷_}
 use Prim.Native.Nat.{ℕ, _+_}
@@ -16,7 +16,7 @@ use Rattle.protocol.specs.Names.{LOOKUP}
 use Rattle.protocol.specs.Record.{round, State, row, identifier}
 use Rattle.protocol.specs.Routing.{responsible, covers}
 
--- The ledger is a set of hub numbers. At first it has the founder alone (document 02, 2026-02).
+-- The hub numbers in the ledger at first: the founder's alone (document 02, 2026-02).
 abbrev pub foundingMembers : ℕ → List ℕ
 foundingMembers founder = founder ∷ []
 
