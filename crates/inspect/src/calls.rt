@@ -129,7 +129,7 @@ fn inquire(w: &mut [u32], q: Inquiry, s: Session, out: &mut [u8]) -> Answered {
     }
 }
 
-// Every line is taken, and so is every record.
+// Every line is taken, and so is every record. A frame means what it means to `ringrun`: one that founds names node 0.
 pub fn answer(w: &mut [u32], line: &[u8], s: Session, out: &mut [u8]) -> Answered {
     let n = least(s.lent, w.len());
     let frame = decode(line);
