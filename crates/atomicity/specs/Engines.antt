@@ -88,7 +88,7 @@ pub present-begins : (slice ids : List ℕ) (founder : ℕ) → freshByCall slic
 unfolding written
 present-begins slice ids founder =
     fresh-cases slice ids founder (λ z. z .outcome ≡ Answered Quiet → Begun (λ s tail. words s ++ tail) ids founder (z .slice))
-    (λ k l e. absurd (refused-answered e))
+    (λ k l m e. absurd (refused-answered e))
     (λ a e. record { below = a .below; few = a .few; differ = a .differ; tail = drop recordSize slice; is = refl })
 
 abbrev pub present-laws : Laws present

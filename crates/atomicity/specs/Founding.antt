@@ -1,55 +1,47 @@
 -- Of every ring that was just founded, by either form of fresh: that fresh finds its founder, and what the first calls give. Document 01's
--- probes on a fresh ring (last hub leaves, empty link, ask at an outside hub, outside hub joins through itself) are cases of it. Assumes nothing.
+-- probes on a fresh ring (its only hub leaves, nothing waits, a hub that is not in it is asked or joins through itself) are cases. Assumes nothing.
 use mathlib.Core.Path.{_≡_, refl, sym, _∙_, ap, subst}
 use mathlib.Core.Logic.{_≢_}
 use mathlib.Core.Bool.{true, false, not, _&&_, _||_}
 use mathlib.Core.List.{List, [], _∷_, _++_}
 use Prim.Native.Nat.{ℕ, _≤_, _<_}
 use native.Mathlib.Omega.{arith}
-use lib.Dec.{leb, ltb, eqb, leb→le, eqb-refl, lt→ltb}
+use lib.Dec.{leb, ltb, eqb, eqb-refl}
 use lib.ListN.{length, getD}
 use borrow.Author.Tests.{lt-ltb}
 use Rattle.clockwise.specs.Clockwise.{dist, within}
 use Rattle.lists.specs.Basics.{if_then_else_, require, every, distinct, first}
-use Rattle.lists.specs.Choice.{on-yes, on-no, tested, granted}
-use Rattle.lists.specs.Tests.{T-true, and-left, says-distinct}
+use Rattle.lists.specs.Choice.{on-yes, on-no}
+use Rattle.lists.specs.Tests.{T-true, says-distinct}
 use Rattle.protocol.specs.declared.Route.the-variants.{Own, To}
 use Rattle.protocol.specs.declared.Answer.the-variants.{Quiet, Found}
 use Rattle.protocol.specs.declared.Outcome.{Outcome}
 use Rattle.protocol.specs.declared.Outcome.the-variants.{Refused, Answered}
 use Rattle.protocol.specs.Names.{IDENTIFIER-COUNT, IDENTIFIER-TWICE, LAST-HUB, NO-FOUNDER, NO-MESSAGE, NOT-IN-RING}
-use Rattle.protocol.specs.Record.{round, mostNodes, recordSize, State, count, row, identifier, ticketed, words}
+use Rattle.protocol.specs.Record.{round, recordSize, State, count, row, identifier, ticketed, words}
 use Rattle.protocol.specs.Fresh.{smallest, alone, fresh}
 use Rattle.protocol.specs.Routing.{inRing, covers, onward}
 use Rattle.protocol.specs.Step as step
 use Rattle.protocol.specs.Step.{Result, refused, accepted, asking}
-use Rattle.protocol.specs.Calls.{Called, long, written, freshCall, freshByCall}
+use Rattle.protocol.specs.Calls.{Called, written, freshCall, freshByCall}
 use Rattle.layout.specs.Founder.{smallest-least}
-use Rattle.layout.specs.Questions.{long-yes}
+use Rattle.layout.specs.Questions.{fresh-cases, long-yes}
 use Rattle.atomicity.specs.Preserved.{fresh-form, length-founded}
-use Rattle.atomicity.specs.Run.{row-f, row-off}
+use Rattle.atomicity.specs.Run.{founder-row, other-row}
 use Rattle.atomicity.specs.Demand3.{Call, present, called}
 use Rattle.atomicity.specs.Engines.{Begun, refused-answered, call-is, present-begins}
 use Rattle.atomicity.specs.Probes.{ask, join, leave, deliver}
 
 -- Where nobody is named the founder is there: fresh never refuses with 18.
 pub never-18 : (w ids : List ℕ) → freshCall w ids .outcome ≡ Refused NO-FOUNDER → ⊥
-unfolding freshByCall written
+unfolding written
 never-18 w ids =
-    tested No (long w) _ _ (λ e. other e (omega arith))
-    (λ l. tested No (leb 1 (length ids) && leb (length ids) mostNodes) _ _ (λ e. other e (omega arith))
-    (λ n. tested No (distinct ids) _ _ (λ e. other e (omega arith))
-    (λ d. granted No (ltb (smallest ids) (length ids)) _ _
-    (lt→ltb _ _ (smallest-least ids (leb→le 1 (length ids) (and-left (leb 1 (length ids)) (leb (length ids) mostNodes) n)) .below)) (λ e. refused-answered (sym e)))))
+    fresh-cases w ids (smallest ids) (λ z. z .outcome ≡ Refused NO-FOUNDER → ⊥)
+    (λ k l m e. let n = m (ap numberOf e) in omega (arith, n .1, smallest-least ids (n .0) .below))
+    (λ a e. refused-answered (sym e))
   where
-    No : Called → Type 0
-    No z = z .outcome ≡ Refused NO-FOUNDER → ⊥
-
     numberOf : Outcome → ℕ
     numberOf = elim [ Refused k ↦ k | Answered a ↦ 0 ]
-
-    other : {k : ℕ} → Refused k ≡ Refused NO-FOUNDER → k < NO-FOUNDER → ⊥
-    other e l = omega (arith, ap numberOf e)
 
 -- Question 18 is the last one: an empty list and one with a repeated identifier are refused before it.
 pub in-order : (w : List ℕ) → recordSize ≤ length w
@@ -64,7 +56,7 @@ in-order w l = (
 )
 
 -- The first calls, on the record w.
-pub record First (ids : List ℕ) (founder : ℕ) (w : List ℕ) : Type 0 where
+pub record FirstCalls (ids : List ℕ) (founder : ℕ) (w : List ℕ) : Type 0 where
   pub answers : (v : ℕ) → called present w (ask founder v) .outcome ≡ Answered (Found founder v 0 0)
   pub stays : called present w (leave founder) .outcome ≡ Refused LAST-HUB
   pub empty : (x y : ℕ) → x < length ids → y < length ids → called present w (deliver x y) .outcome ≡ Refused NO-MESSAGE
@@ -82,7 +74,7 @@ module _ (ids : List ℕ) (f : ℕ) (below : f < length ids) where
 
   is-alone : row s f ≡ alone f (getD ids f 0)
   unfolding fresh
-  is-alone = row-f ids f below
+  is-alone = founder-row ids f below
 
   -- the founder's range is the whole ring
   owns : (v : ℕ) → onward (identifier s (row s f .pred)) (row s f) v ≡ Own
@@ -117,7 +109,7 @@ module _ (ids : List ℕ) (f : ℕ) (below : f < length ids) where
   module _ (hub : ℕ) (l : hub < length ids) (ne : hub ≢ f) where
     not-in : inRing (row s hub) ≡ false
     unfolding fresh inRing
-    not-in = ap inRing (row-off ids f below hub ne)
+    not-in = ap inRing (other-row ids f below hub ne)
 
     asked : (v : ℕ) → step.step s 0 hub v ≡ refused NOT-IN-RING
     unfolding step.step step.ask if_then_else_
@@ -127,14 +119,14 @@ module _ (ids : List ℕ) (f : ℕ) (below : f < length ids) where
     unfolding fresh step.step step.join if_then_else_
     joins =
         on-yes _ _ _ (ap (λ b. b && ltb hub (count s)) (hubs hub l) ∙ hubs hub l)
-        ∙ on-yes _ _ _ (ap (λ h. eqb (h .state) 0) (row-off ids f below hub ne))
+        ∙ on-yes _ _ _ (ap (λ h. eqb (h .state) 0) (other-row ids f below hub ne))
         ∙ on-no _ _ _ not-in
 
 -- After every accepted fresh call.
 pub first-calls : (slice ids : List ℕ) (founder : ℕ) → freshByCall slice ids founder .outcome ≡ Answered Quiet
-    → First ids founder (freshByCall slice ids founder .slice)
+    → FirstCalls ids founder (freshByCall slice ids founder .slice)
 unfolding written
-first-calls slice ids founder o = subst (First ids founder) (sym (k .is)) (record {
+first-calls slice ids founder o = subst (FirstCalls ids founder) (sym (k .is)) (record {
   answers = λ v. gives (ask founder v) (answers ids founder (k .below) v);
   stays = gives (leave founder) (stays ids founder (k .below));
   empty = λ x y lx ly. gives (deliver x y) (empty ids founder (k .below) x y lx ly);

@@ -65,7 +65,7 @@ step-sound w operation x y =
 -- So does an accepted fresh, whoever founds.
 pub fresh-sound : (w ids : List ℕ) (founder : ℕ) → Sound w (freshByCall w ids founder)
 fresh-sound w ids founder =
-    fresh-cases w ids founder (Sound w) (λ k l. turned-sound w k)
+    fresh-cases w ids founder (Sound w) (λ k l m. turned-sound w k)
     (λ a. written-sound w (accepted Quiet (fresh ids founder)) (a .long)
     (leaves-accepted Quiet (fresh ids founder) (fresh-form ids founder (a .below) (a .few) (says-distinct ids .to (a .differ)))))
 

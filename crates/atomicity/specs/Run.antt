@@ -221,11 +221,11 @@ module _ (ids : List ℕ) (f : ℕ) (lf : f < length ids) where
   abbrev name : ℕ → ℕ
   name h = getD ids h 0
 
-  pub row-f : rowOf rows f ≡ alone f (name f)
-  row-f = getD-set-same (map outside ids) f (alone f (name f)) (outside 0) (omega (arith, length-map ids outside))
+  pub founder-row : rowOf rows f ≡ alone f (name f)
+  founder-row = getD-set-same (map outside ids) f (alone f (name f)) (outside 0) (omega (arith, length-map ids outside))
 
-  pub row-off : (h : ℕ) → h ≢ f → rowOf rows h ≡ outside (name h)
-  row-off h ne = getD-set-other (map outside ids) f h (alone f (name f)) (outside 0) ne ∙ List·getD-map outside ids h 0
+  pub other-row : (h : ℕ) → h ≢ f → rowOf rows h ≡ outside (name h)
+  other-row h ne = getD-set-other (map outside ids) f h (alone f (name f)) (outside 0) ne ∙ List·getD-map outside ids h 0
 
   led-off : (h : ℕ) → h ≢ f → mark (f ∷ []) h ≡ 0
   unfolding mark
@@ -236,7 +236,7 @@ module _ (ids : List ℕ) (f : ℕ) (lf : f < length ids) where
     ms = [];
     same = refl;
     holds = record {
-      inv = alone-inv name (length ids) (hubs rows (mark (f ∷ []))) f lf (ap coreOf row-f) (λ h ne. ap coreOf (row-off h ne)) (ap (λ h. h .succ) row-f) (mark-head [] f) led-off;
+      inv = alone-inv name (length ids) (hubs rows (mark (f ∷ []))) f lf (ap coreOf founder-row) (λ h ne. ap coreOf (other-row h ne)) (ap (λ h. h .succ) founder-row) (mark-head [] f) led-off;
       size = length-founded ids f;
       names = kept-names (map outside ids) f (alone f (name f)) name (founder-name ids f) (λ h. ap (λ z. z .identifier) (List·getD-map outside ids h 0));
       once = λ k. omega arith;

@@ -74,7 +74,7 @@ module _ (b : List ℕ) where
       (λ l. tested Back (wellFormed (wordsOf b)) _ _ (turned-back NOT-WELL-FORMED) (λ f. written-back (step (read (wordsOf b)) operation x y)))
 
   fresh-back : (ids : List ℕ) (founder : ℕ) → Back (freshByCall (wordsOf b) ids founder)
-  fresh-back ids founder = fresh-cases (wordsOf b) ids founder Back (λ k l. turned-back k) (λ a. written-back (accepted Quiet _))
+  fresh-back ids founder = fresh-cases (wordsOf b) ids founder Back (λ k l m. turned-back k) (λ a. written-back (accepted Quiet _))
 
 -- A record that was reached in a slice of 32-bit words; and bytes that carry one.
 abbrev Reach : List ℕ → ℕ → List Event → List ℕ → Type 0
@@ -120,7 +120,7 @@ every-call ids founder events b r (c ∷ calls) t = go (leb 20 (length (c .out))
 fresh-zero : (w ids : List ℕ) (founder : ℕ) → refusal (freshByCall w ids founder .outcome) ≡ 0 → freshByCall w ids founder .outcome ≡ Answered Quiet
 unfolding refusal written
 fresh-zero w ids founder =
-    fresh-cases w ids founder (λ z. refusal (z .outcome) ≡ 0 → z .outcome ≡ Answered Quiet) (λ k l e. absurd (omega arith)) (λ a e. refl)
+    fresh-cases w ids founder (λ z. refusal (z .outcome) ≡ 0 → z .outcome ≡ Answered Quiet) (λ k l m e. absurd (omega arith)) (λ a e. refl)
 
 begins : (lent ids : List ℕ) (founder : ℕ) → All Byte lent → All Word ids → refusal (freshByCall (wordsOf lent) ids founder .outcome) ≡ 0
     → At ids founder [] (bytesAfter lent (freshByCall (wordsOf lent) ids founder .slice) (freshByCall (wordsOf lent) ids founder .outcome))

@@ -1,14 +1,14 @@
 -- Questions 1 and 2 in the words' terms, and those of a fresh call. Assumes nothing.
 use mathlib.Core.Path.{_≡_, _∙_}
-use mathlib.Core.Bool.{true, false, _&&_}
+use mathlib.Core.Bool.{true, false, not, _&&_}
 use mathlib.Core.List.{List}
 use Prim.Native.Nat.{ℕ, _≤_, _<_}
 use native.Mathlib.Omega.{arith}
-use lib.Dec.{T, leb, ltb, leb→le, le→leb, ltb→lt}
+use lib.Dec.{T, leb, ltb, leb→le, le→leb, ltb→lt, lt→ltb, T-not}
 use lib.ListN.{length}
 use borrow.Author.Tests.{le-leb, lt-leb, lt-ltb}
-use Rattle.lists.specs.Basics.{distinct}
-use Rattle.lists.specs.Choice.{on-yes, on-no, tested}
+use Rattle.lists.specs.Basics.{require, distinct}
+use Rattle.lists.specs.Choice.{on-yes, on-no, choose, tested}
 use Rattle.lists.specs.Tests.{T-true, and-left, and-right, and-both}
 use Rattle.protocol.specs.declared.Answer.the-variants.{Quiet}
 use Rattle.protocol.specs.Names.{IDENTIFIER-COUNT, IDENTIFIER-TWICE, NO-FOUNDER, NOT-WELL-FORMED, RECORD-SHORT}
@@ -48,22 +48,29 @@ pub record Asked (w ids : List ℕ) (founder : ℕ) : Type 0 where
   pub below : founder < length ids
 
 module _ (w ids : List ℕ) (founder : ℕ) where
-  -- What holds of its result: a question was answered no, and has a number above 0; or each was answered yes.
-  pub fresh-cases : (P : Called → Type 0) → ((k : ℕ) → 0 < k → P (turnedDown w k)) → (Asked w ids founder → P (written w (accepted Quiet (fresh ids founder))))
+  -- What holds of its result: a question was answered no, and has a number above 0, which is 18 only where the founder is no hub of a list that
+  -- has some; or each was answered yes.
+  pub fresh-cases : (P : Called → Type 0)
+      → ((k : ℕ) → 0 < k → (k ≡ NO-FOUNDER → (1 ≤ length ids) × (length ids ≤ founder)) → P (turnedDown w k))
+      → (Asked w ids founder → P (written w (accepted Quiet (fresh ids founder))))
       → P (freshByCall w ids founder)
-  unfolding freshByCall long
+  unfolding freshByCall long require
   fresh-cases P refuses founds =
-      tested P (leb recordSize (length w)) _ _ (refuses RECORD-SHORT (omega arith))
-      (λ l. tested P (leb 1 (length ids) && leb (length ids) mostNodes) _ _ (refuses IDENTIFIER-COUNT (omega arith))
-      (λ n. tested P (distinct ids) _ _ (refuses IDENTIFIER-TWICE (omega arith))
-      (λ d. tested P (ltb founder (length ids)) _ _ (refuses NO-FOUNDER (omega arith))
-      (λ b. founds (record {
-        long = leb→le recordSize (length w) l;
-        some = leb→le 1 (length ids) (and-left (leb 1 (length ids)) (leb (length ids) mostNodes) n);
-        few = leb→le (length ids) mostNodes (and-right (leb 1 (length ids)) (leb (length ids) mostNodes) n);
-        differ = d;
-        below = ltb→lt founder (length ids) b;
-      })))))
+      tested P (leb recordSize (length w)) _ _ (refuses RECORD-SHORT (omega arith) (λ e. absurd (omega arith)))
+      (λ l. tested P (leb 1 (length ids) && leb (length ids) mostNodes) _ _ (refuses IDENTIFIER-COUNT (omega arith) (λ e. absurd (omega arith)))
+      (λ n. tested P (distinct ids) _ _ (refuses IDENTIFIER-TWICE (omega arith) (λ e. absurd (omega arith)))
+      (λ d. choose P (ltb founder (length ids)) _ _
+      (λ b. founds (record { long = leb→le recordSize (length w) l; some = some n; few = few n; differ = d; below = ltb→lt founder (length ids) b }))
+      (λ c. refuses NO-FOUNDER (omega arith) (λ e. (some n, omega (arith, behind c)))))))
+    where
+      some : T (leb 1 (length ids) && leb (length ids) mostNodes) → 1 ≤ length ids
+      some n = leb→le 1 (length ids) (and-left (leb 1 (length ids)) (leb (length ids) mostNodes) n)
+
+      few : T (leb 1 (length ids) && leb (length ids) mostNodes) → length ids ≤ mostNodes
+      few n = leb→le (length ids) mostNodes (and-right (leb 1 (length ids)) (leb (length ids) mostNodes) n)
+
+      behind : T (not (ltb founder (length ids))) → ¬ (founder < length ids)
+      behind c l = T-not (ltb founder (length ids)) c (lt→ltb founder (length ids) l)
 
   -- And where each is answered yes, it founds.
   pub fresh-founds : Asked w ids founder → freshByCall w ids founder ≡ written w (accepted Quiet (fresh ids founder))

@@ -46,8 +46,8 @@ written w (accepted a s) = record { outcome = Answered a; slice = words s ++ dro
 unfoldable pub stepCall : List ℕ → ℕ → ℕ → ℕ → Called
 stepCall w operation x y = onRecord w (turnedDown w) (written w (step (read w) operation x y))
 
--- Fresh, with the founder named: '1 to 64 identifiers? 13. All different? 14.', and then (document 02, 2026-02) whether the founder is one of
--- the hubs: 18. It answers quiet.
+-- Fresh, with the founder named. It asks how many identifiers there are (13), whether two are equal (14), and at last (document 02, 2026-02)
+-- whether the founder is one of the hubs (18). It answers quiet.
 unfoldable pub freshByCall : List ℕ → List ℕ → ℕ → Called
 freshByCall w ids founder =
     require (long w) (turnedDown w RECORD-SHORT)

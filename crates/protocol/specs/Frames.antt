@@ -97,7 +97,7 @@ pub record Printed : Type 0 where
 unfoldable pub answering : Called → Printed
 answering c = record { printed = line (outcomeText (c .outcome)); slice = c .slice }
 
--- A founding frame names hub 0 (document 02, 2026-02). '.. prints `EEFF`', and no word changes. FF is 255.
+-- A founding frame names hub 0 (document 02, 2026-02). What is no frame prints EEFF, and no word changes. FF is 255.
 unfoldable pub frameCall : List ℕ → List ℕ → Frame → Printed
 frameCall w l (Founding n) = answering (freshByCall w (identifiers l n) 0)
 frameCall w l (Command operation x y) = answering (stepCall w operation x y)

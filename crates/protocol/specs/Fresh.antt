@@ -20,14 +20,14 @@ abbrev pub founderOf : Founder → List ℕ → ℕ
 founderOf Smallest ids = smallest ids
 founderOf (Named hub) ids = hub
 
--- 'inside, unlocked, its own pred and succ'
+-- The founder's row: inside and unlocked, with itself before and behind it.
 abbrev pub alone : ℕ → ℕ → Row
 alone hub name = record { identifier = name; state = INSIDE; lock = 0; flag = 0; pred = hub; succ = hub; oldpred = none }
 
--- The rows of the ring that a hub founds; 'the others are outside'.
+-- The rows of the ring that a hub founds: every other hub is outside.
 abbrev pub foundedBy : ℕ → List ℕ → List Row
 foundedBy hub ids = set (map outside ids) hub (alone hub (getD ids hub 0))
 
--- 'asked 0, no message'
+-- Nothing was asked yet, and nothing waits.
 unfoldable pub fresh : List ℕ → ℕ → State
 fresh ids founder = record { rows = foundedBy founder ids; messages = []; asked = 0 }
