@@ -29,6 +29,7 @@ extern "C" {
 #define RING_RECORD_BYTES 7952u /* a ring record: the least that `words` must have */
 #define RING_ANSWER_BYTES 20u   /* a step's answer: the least that `out` must have */
 #define RING_OWNER_BYTES 4u     /* the owner query's answer: the least that `out` must have */
+#define RING_COUNTS_BYTES 16u   /* the counts of a sheet read or written: the least that `counts` must have */
 
 /* The most hubs: the most identifiers, of four bytes each, that found a ring. */
 #define RING_MOST_HUBS 64u
@@ -52,8 +53,11 @@ enum ring_code {
     RING_IDENTIFIER_TWICE = 14, /* fresh: two identifiers are equal */
     RING_NO_HOLDER = 15,      /* owner: no hub holds the number */
     RING_NO_WAY_ROUND = 16,   /* roll call: following the successors does not come back */
-    RING_OUTPUT_SHORT = 17,   /* `out` is too short: asked before anything else */
-    RING_NO_FOUNDER = 18      /* fresh: the founder named is not below the number of hubs */
+    RING_OUTPUT_SHORT = 17,   /* `out`, or `counts`, is too short: asked before anything else */
+    RING_NO_FOUNDER = 18,     /* fresh: the founder named is not below the number of hubs */
+    RING_NO_SHEET = 19,       /* sheet: the text is none, or the names to be written are not one for each identifier */
+    RING_IDENTIFIER_TOO_LARGE = 20, /* sheet: an identifier is above 4294967295 */
+    RING_ROOM_SHORT = 21      /* sheet: an output is too short for what is to be written */
 };
 
 /* A hub's state: the second of the seven words of its row, which begins at byte 16 + 28 times the hub's number of the record. */
@@ -126,6 +130,36 @@ uint32_t ring_step(uint8_t *words, size_t words_len, uint32_t operation, uint32_
  * Returns RING_OK, RING_OUTPUT_SHORT, RING_RECORD_SHORT, RING_NOT_WELL_FORMED or RING_NO_HOLDER.
  */
 uint32_t ring_owner(const uint8_t *words, size_t words_len, uint32_t number, uint8_t *out, size_t out_len);
+
+/*
+ * ring_sheet_read - the hubs of an office sheet: RFC 4180, a name and an identifier in decimal in each row, each quoted or not, no header.
+ *
+ *   text, text_len                the sheet, only read; any bytes, any length
+ *   identifiers, identifiers_len  gets the identifiers, four bytes each, lowest first, as ring_fresh takes them; length in bytes
+ *   names, names_len              gets the names without their quotes, one behind the other, each with a zero byte behind it
+ *   counts, counts_len            gets two counts in RING_COUNTS_BYTES bytes, eight bytes each, lowest first: rows, and bytes of names
+ *
+ * What lies behind the bytes written stays as it is. As text_len is always enough for names_len but for the zero byte of the last name, and
+ * 2 * text_len for identifiers_len, memory of that size is never refused.
+ *
+ * Returns RING_OK, RING_OUTPUT_SHORT (for counts), RING_NO_SHEET, RING_IDENTIFIER_TOO_LARGE or RING_ROOM_SHORT (for identifiers or names), in
+ * this order. A ring takes RING_MOST_HUBS hubs at most, and no identifier twice: ring_fresh says so, not this call.
+ */
+uint32_t ring_sheet_read(const uint8_t *text, size_t text_len, uint8_t *identifiers, size_t identifiers_len, uint8_t *names, size_t names_len,
+                         uint8_t *counts, size_t counts_len);
+
+/*
+ * ring_sheet_write - the way back: the sheet of names and identifiers. Names are quoted where they must be, and each row ends in CR LF.
+ *
+ *   names, names_len              the names, each with a zero byte behind it: as many as there are identifiers, and nothing else
+ *   identifiers, identifiers_len  the identifiers, four bytes each, lowest first; length in bytes
+ *   text, text_len                gets the sheet; what lies behind it stays as it is
+ *   counts, counts_len            gets rows, and bytes of text, as above
+ *
+ * Returns RING_OK, RING_OUTPUT_SHORT (for counts), RING_NO_SHEET (for names) or RING_ROOM_SHORT (for text), in this order.
+ */
+uint32_t ring_sheet_write(const uint8_t *names, size_t names_len, const uint8_t *identifiers, size_t identifiers_len, uint8_t *text,
+                          size_t text_len, uint8_t *counts, size_t counts_len);
 
 /* ring_word - word i of a buffer of words: what an answer says, or any word of the record. */
 static inline uint32_t ring_word(const uint8_t *bytes, size_t i)

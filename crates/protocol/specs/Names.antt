@@ -164,6 +164,18 @@ OUTPUT-SHORT = 17
 abbrev pub NO-FOUNDER : ℕ
 NO-FOUNDER = 18
 
+-- sheet: the text is none, or the names to be written are not one for each identifier
+abbrev pub NO-SHEET : ℕ
+NO-SHEET = 19
+
+-- sheet: an identifier is above 4294967295
+abbrev pub IDENTIFIER-TOO-LARGE : ℕ
+IDENTIFIER-TOO-LARGE = 20
+
+-- sheet: there is too little room for what is to be written
+abbrev pub ROOM-SHORT : ℕ
+ROOM-SHORT = 21
+
 -- a line of `ringrun` that is no frame, which prints EEFF: no call returns it
 abbrev pub UNREADABLE : ℕ
 UNREADABLE = 255

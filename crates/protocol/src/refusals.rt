@@ -53,5 +53,14 @@ pub const OUTPUT_SHORT: u32 = 17;
 // Fresh: the founder named is not below the hub count.
 pub const NO_FOUNDER: u32 = 18;
 
+// Sheet: the text is none, or the names to be written are not one for each identifier.
+pub const NO_SHEET: u32 = 19;
+
+// Sheet: an identifier is above 4294967295.
+pub const IDENTIFIER_TOO_LARGE: u32 = 20;
+
+// Sheet: there is too little room for what is to be written.
+pub const ROOM_SHORT: u32 = 21;
+
 // A line of `ringrun` that is no frame: it prints EEFF. No call returns this number.
 pub const UNREADABLE: u32 = 255;

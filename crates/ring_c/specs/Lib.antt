@@ -1,3 +1,4 @@
 pub mod First
 pub mod Carry
 pub mod Results
+pub mod Told

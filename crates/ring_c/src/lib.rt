@@ -11,8 +11,13 @@ use crate::results::finish_owner;
 use protocol::Founder;
 use protocol::form::RECORD_BYTES;
 use protocol::refusals;
+use sheets::Outcome;
+use sheets::put_counts;
+use sheets::read_sheet_bytes;
+use sheets::write_sheet_bytes;
 ghost use mathlib.Core.Path.{_≡_};
 ghost use Rattle.protocol.specs.Bytes.{stepBytes, ownerBytes, freshBytes, freshByBytes};
+ghost use Rattle.ring_c.specs.Told.{sheetRead, sheetWrite};
 
 // One command on the record in the lent bytes. Only the record is loaded, since a step looks at nothing behind it.
 #[no_mangle]
@@ -60,4 +65,48 @@ pub extern "C" fn ring_fresh_by(words: &mut [u8], identifiers: &[u8], founder: u
     ensures { λ r. ⌜ freshByBytes (now (words .entry)) (now (identifiers .entry)) founder ≡ record { code = r; bytes = now (words .exit) } ⌝ }
 {
     found(words, identifiers, Founder::Named(founder))
+}
+
+// The sheet in the lent text, into identifiers and names; counts: rows, and bytes of names.
+#[no_mangle]
+pub extern "C" fn ring_sheet_read(
+    text: &[u8],
+    identifiers: &mut [u8],
+    names: &mut [u8],
+    counts: &mut [u8],
+) -> u32
+    ensures { λ r. ⌜ sheetRead (now (text .entry)) (now (identifiers .entry)) (now (names .entry)) (now (counts .entry)) ≡ record { code = r; identifiers = now (identifiers .exit); names = now (names .exit); counts = now (counts .exit) } ⌝ }
+{
+    if counts.len() < 16 {
+        return 17;
+    }
+    match read_sheet_bytes(text, identifiers, names) {
+        Outcome::Refused(k) => k,
+        Outcome::Done { rows, bytes } => {
+            put_counts(counts, rows, bytes);
+            0
+        }
+    }
+}
+
+// Names and identifiers as a sheet, into the lent text; counts: rows, and bytes of text.
+#[no_mangle]
+pub extern "C" fn ring_sheet_write(
+    names: &[u8],
+    identifiers: &[u8],
+    text: &mut [u8],
+    counts: &mut [u8],
+) -> u32
+    ensures { λ r. ⌜ sheetWrite (now (names .entry)) (now (identifiers .entry)) (now (text .entry)) (now (counts .entry)) ≡ record { code = r; text = now (text .exit); counts = now (counts .exit) } ⌝ }
+{
+    if counts.len() < 16 {
+        return 17;
+    }
+    match write_sheet_bytes(names, identifiers, text) {
+        Outcome::Refused(k) => k,
+        Outcome::Done { rows, bytes } => {
+            put_counts(counts, rows, bytes);
+            0
+        }
+    }
 }

@@ -178,7 +178,8 @@ fn kind_name(kind: u32) -> &'static str {
 }
 
 /// The name of a refusal number. No line is refused by 18, since a founding
-/// frame names hub 0, but the number has its name like the others.
+/// frame names hub 0, nor by the sheet's 19 to 21; but each number has its
+/// name.
 pub fn refusal_name(number: u32) -> &'static str {
     match number {
         refusal::RECORD_SHORT => "record short",
@@ -199,6 +200,9 @@ pub fn refusal_name(number: u32) -> &'static str {
         refusal::NO_WAY_ROUND => "no way round",
         refusal::OUTPUT_SHORT => "output short",
         refusal::NO_FOUNDER => "no founder",
+        refusal::NO_SHEET => "no sheet",
+        refusal::IDENTIFIER_TOO_LARGE => "identifier too large",
+        refusal::ROOM_SHORT => "room short",
         _ => unreachable!("the documents have no such refusal"),
     }
 }

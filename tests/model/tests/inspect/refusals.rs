@@ -9,7 +9,7 @@ use super::{ask, holding, last};
 use crate::common::{inside, message, outside, record, Run};
 
 /// The names, in the order of their numbers.
-pub const NAMES: [&str; 18] = [
+pub const NAMES: [&str; 21] = [
     "record short",
     "not well formed",
     "no operation",
@@ -28,6 +28,9 @@ pub const NAMES: [&str; 18] = [
     "no way round",
     "output short",
     "no founder",
+    "no sheet",
+    "identifier too large",
+    "room short",
 ];
 
 fn refused(number: usize) -> String {

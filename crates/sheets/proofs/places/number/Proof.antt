@@ -1,0 +1,31 @@
+use Rattle.sheets.specs.Reader.{number}
+use Rattle.lists.specs.Basics.{if_then_else_}
+use borrow.Author.Tests.{eq-eqb, ne-eqb}
+use borrow.Author.Needs.{needs}
+use Rattle.sheets.proofs.places.number.Statement.{statement}
+use Rattle.sheets.proofs.places.number.Tie as tie
+use Rattle.sheets.proofs.places.number.Reads as reads
+use Rattle.sheets.proofs.places.number.Lts as lts
+use Rattle.sheets.proofs.bytes.is_digit.Reads as is-digit-reads
+
+-- src/places.rt:64:9
+returns : tie.Need-returns
+unfolding number if_then_else_
+returns c = simp (eq-eqb _ _ (c .if1 .taken))
+
+-- src/places.rt:66:8
+is-digit-requires : tie.Need-is-digit-requires
+is-digit-requires c κs = search needs
+
+-- src/places.rt:67:9
+returns-2 : tie.Need-returns-2
+unfolding number if_then_else_
+returns-2 c = simp (c .if2 .taken, ← c .before .is-digit .ensures, ne-eqb _ _ (c .before .before .if1 .left))
+
+-- src/places.rt:60:1
+returns-3 : tie.Need-returns-3
+unfolding number if_then_else_
+returns-3 c = simp (c .if2 .left, ← c .before .is-digit .ensures, ne-eqb _ _ (c .before .before .if1 .left))
+
+pub number-spec : {M : Type 1} → statement M
+number-spec = tie.close (tie.spec returns is-digit-requires returns-2 returns-3)

@@ -1,0 +1,20 @@
+use Rattle.sheets.specs.Reader.{next}
+use Rattle.lists.specs.Basics.{if_then_else_}
+use borrow.Author.Tests.{eq-eqb, ne-eqb}
+use Rattle.sheets.proofs.places.returned.Statement.{statement}
+use Rattle.sheets.proofs.places.returned.Tie as tie
+use Rattle.sheets.proofs.places.returned.Reads as reads
+use Rattle.sheets.proofs.places.returned.Lts as lts
+
+-- src/places.rt:118:9
+returns : tie.Need-returns
+unfolding next if_then_else_
+returns c = simp (eq-eqb _ _ (c .if1 .taken))
+
+-- src/places.rt:114:1
+returns-2 : tie.Need-returns-2
+unfolding next if_then_else_
+returns-2 c = simp (ne-eqb _ _ (c .if1 .left))
+
+pub returned-spec : {M : Type 1} → statement M
+returned-spec = tie.close (tie.spec returns returns-2)

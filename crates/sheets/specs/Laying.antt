@@ -1,0 +1,54 @@
+-- Lists written to the front of a buffer, piece by piece. Assumes nothing.
+use mathlib.Core.Path.{_≡_, refl, ap, sym, _∙_}
+use mathlib.Core.List.{List, [], _∷_, _++_, append-assoc, append-nil}
+use Prim.Native.Nat.{ℕ, _+_, _≤_, _<_}
+use native.Mathlib.Nat.{add-zero}
+use native.Mathlib.Numerals.{add-one}
+use native.Mathlib.Omega.{arith}
+use lib.ListN.{length, take, drop, set, length-append, length-take, length-drop, take-append-drop}
+use lib.Seq.{set-split, drop-drop, append-snoc, length-take-le}
+use Rattle.lists.specs.Splice.{splice, splice-at}
+use Rattle.sheets.specs.Calls.{laid}
+
+pub splice-none : (w : List ℕ) (a : ℕ) → w ≡ splice w a []
+unfolding splice
+splice-none w a = sym (ap (λ l. l ++ drop (a + 0) w) (append-nil (take a w)) ∙ ap (λ k. take a w ++ drop k w) (add-zero a) ∙ take-append-drop a w)
+
+pub splice-one : (w : List ℕ) (a v : ℕ) → a < length w → set w a v ≡ splice w a (v ∷ [])
+unfolding splice
+splice-one w a v h = set-split w a v h ∙ ap (λ k. take a w ++ (v ∷ drop k w)) (sym (add-one a)) ∙ sym (append-snoc (take a w) v (drop (a + 1) w))
+
+pub length-splice : (w vs : List ℕ) (a : ℕ) → a + length vs ≤ length w → length (splice w a vs) ≡ length w
+unfolding splice
+length-splice w vs a h = simp (length-append, length-take, length-drop) (omega arith)
+
+-- two pieces, one behind the other
+pub splice-twice : (w u v : List ℕ) (a : ℕ) → a + length u ≤ length w → splice (splice w a u) (a + length u) v ≡ splice w a (u ++ v)
+unfolding splice
+splice-twice w u v a h =
+    let k : length (take a w ++ u) ≡ a + length u = length-append (take a w) u ∙ ap (λ n. n + length u) (length-take-le a w (omega arith)) in
+    splice-at (take a w ++ u) (drop (a + length u) w) v (a + length u) k
+    ∙ ap (λ l. (take a w ++ u) ++ (v ++ l)) (drop-drop (length v) (a + length u) w)
+    ∙ sym (append-assoc (take a w ++ u) v (drop (a + length u + length v) w))
+    ∙ ap (λ l. l ++ drop (a + length u + length v) w) (append-assoc (take a w) u v)
+    ∙ ap (λ n. (take a w ++ (u ++ v)) ++ drop n w) (let e : a + length u + length v ≡ a + (length u + length v) = omega arith in e ∙ ap (λ n. a + n) (sym (length-append u v)))
+
+pub laid-none : (w : List ℕ) → w ≡ laid w []
+unfolding laid
+laid-none w = refl
+
+pub laid-more : (w l v : List ℕ) (a : ℕ) → a ≡ length l → splice (laid w l) a v ≡ laid w (l ++ v)
+unfolding laid
+laid-more w l v a e =
+    splice-at l (drop (length l) w) v a (sym e)
+    ∙ ap (λ k. l ++ (v ++ k)) (drop-drop (length v) (length l) w ∙ ap (λ n. drop n w) (sym (length-append l v)))
+    ∙ sym (append-assoc l v (drop (length (l ++ v)) w))
+
+pub length-laid : (w l : List ℕ) → length l ≤ length w → length (laid w l) ≡ length w
+unfolding laid
+length-laid w l h = simp (length-append, length-drop) (omega arith)
+
+-- the front of a buffer is a splice at 0
+pub laid-splice : (w l : List ℕ) → splice w 0 l ≡ laid w l
+unfolding splice laid
+laid-splice w l = ap (λ n. l ++ drop n w) (let e : 0 + length l ≡ length l = omega arith in e)
