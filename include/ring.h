@@ -139,8 +139,7 @@ uint32_t ring_owner(const uint8_t *words, size_t words_len, uint32_t number, uin
  *   names, names_len              gets the names without their quotes, one behind the other, each with a zero byte behind it
  *   counts, counts_len            gets two counts in RING_COUNTS_BYTES bytes, eight bytes each, lowest first: rows, and bytes of names
  *
- * What lies behind the bytes written stays as it is. As text_len is always enough for names_len but for the zero byte of the last name, and
- * 2 * text_len for identifiers_len, memory of that size is never refused.
+ * What lies behind the bytes written stays as it is. Names of text_len bytes and identifiers of text_len + 2 are always long enough.
  *
  * Returns RING_OK, RING_OUTPUT_SHORT (for counts), RING_NO_SHEET, RING_IDENTIFIER_TOO_LARGE or RING_ROOM_SHORT (for identifiers or names), in
  * this order. A ring takes RING_MOST_HUBS hubs at most, and no identifier twice: ring_fresh says so, not this call.
