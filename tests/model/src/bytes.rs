@@ -1,10 +1,15 @@
 //! The calls on bytes, as the C boundary has them (document 01, 'Reading the
-//! ring'): four bytes a word, lowest first.
+//! ring'): four bytes a word, lowest first. The office sheet's are in a file of
+//! their own.
 
 use crate::queries::owner;
 use crate::record::RECORD_WORDS;
 use crate::refusal;
 use crate::step::{fresh, fresh_by, step};
+
+mod sheet;
+
+pub use sheet::{give_hubs, give_text, ring_sheet_read, ring_sheet_write, COUNTS_BYTES};
 
 /// Nothing was refused.
 pub const NO_REFUSAL: u32 = 0;

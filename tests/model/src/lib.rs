@@ -23,6 +23,7 @@ pub mod record;
 pub mod refusal;
 pub mod ringrun;
 pub mod routing;
+pub mod sheet;
 pub mod states;
 pub mod step;
 pub mod tally;
