@@ -12,6 +12,11 @@ use crate::form::Form;
 /// Bytes of a record.
 pub const RECORD_BYTES: usize = 4 * RECORD_WORDS;
 
+/// `ring_sheet_read`: text, identifiers, names and counts.
+pub type SheetRead = fn(&[u8], &mut [u8], &mut [u8], &mut [u8]) -> u32;
+/// `ring_sheet_write`: names, identifiers, text and counts.
+pub type SheetWrite = fn(&[u8], &[u8], &mut [u8], &mut [u8]) -> u32;
+
 /// The calls of one engine.
 #[derive(Clone, Copy)]
 pub struct Calls {
@@ -23,6 +28,10 @@ pub struct Calls {
     pub step: fn(&mut [u8], u32, u32, u32, &mut [u8]) -> u32,
     /// `ring_owner`.
     pub owner: fn(&[u8], u32, &mut [u8]) -> u32,
+    /// `ring_sheet_read`.
+    pub sheet_read: SheetRead,
+    /// `ring_sheet_write`.
+    pub sheet_write: SheetWrite,
     /// The step on words, as the model's witness calls it.
     pub word_step: StepCall,
     /// Where `ringrun` is, seen from the repository's folder.
@@ -37,6 +46,8 @@ pub const ENGINE: Calls = Calls {
     fresh_by: engine::fresh_by,
     step: engine::step,
     owner: engine::owner,
+    sheet_read: engine::sheet_read,
+    sheet_write: engine::sheet_write,
     word_step: engine_word_step,
     ringrun: "target/bin/ringrun",
     inspect: "target/bin/inspect",

@@ -1,4 +1,4 @@
-//! The engine's four C calls, as functions on slices. This is the only file with `unsafe`.
+//! The engine's six C calls, as functions on slices. This is the only file with `unsafe`.
 #![allow(unsafe_code)]
 
 extern "C" {
@@ -31,6 +31,26 @@ extern "C" {
         out: *mut u8,
         out_len: usize,
     ) -> u32;
+    fn ring_sheet_read(
+        text: *const u8,
+        text_len: usize,
+        identifiers: *mut u8,
+        identifiers_len: usize,
+        names: *mut u8,
+        names_len: usize,
+        counts: *mut u8,
+        counts_len: usize,
+    ) -> u32;
+    fn ring_sheet_write(
+        names: *const u8,
+        names_len: usize,
+        identifiers: *const u8,
+        identifiers_len: usize,
+        text: *mut u8,
+        text_len: usize,
+        counts: *mut u8,
+        counts_len: usize,
+    ) -> u32;
 }
 
 /// Founds a ring by the smallest identifier.
@@ -59,4 +79,38 @@ pub fn step(words: &mut [u8], operation: u32, x: u32, y: u32, out: &mut [u8]) ->
 pub fn owner(words: &[u8], key: u32, out: &mut [u8]) -> u32 {
     // SAFETY: as for fresh; the record is only read.
     unsafe { ring_owner(words.as_ptr(), words.len(), key, out.as_mut_ptr(), out.len()) }
+}
+
+/// Reads a sheet.
+pub fn sheet_read(text: &[u8], identifiers: &mut [u8], names: &mut [u8], counts: &mut [u8]) -> u32 {
+    // SAFETY: as for fresh, of four slices.
+    unsafe {
+        ring_sheet_read(
+            text.as_ptr(),
+            text.len(),
+            identifiers.as_mut_ptr(),
+            identifiers.len(),
+            names.as_mut_ptr(),
+            names.len(),
+            counts.as_mut_ptr(),
+            counts.len(),
+        )
+    }
+}
+
+/// Writes a sheet.
+pub fn sheet_write(names: &[u8], identifiers: &[u8], text: &mut [u8], counts: &mut [u8]) -> u32 {
+    // SAFETY: as for fresh, of four slices.
+    unsafe {
+        ring_sheet_write(
+            names.as_ptr(),
+            names.len(),
+            identifiers.as_ptr(),
+            identifiers.len(),
+            text.as_mut_ptr(),
+            text.len(),
+            counts.as_mut_ptr(),
+            counts.len(),
+        )
+    }
 }

@@ -18,6 +18,7 @@ use crate::engine;
 use crate::filters::{FILTERS, NO_FAULT};
 use crate::parts::PARTS;
 use crate::reached::Reached;
+use crate::sheets::wrong::{same_read, same_write, READS, WRITES};
 use crate::wrong_foundings::{NAMED, UNNAMED};
 
 /// A seldom fault shows in one of so many calls.
@@ -71,7 +72,7 @@ pub fn faults() -> Vec<Fault> {
     let steps = STEPS.iter().map(|&(name, part, step)| fault(name, part, Calls { step, ..ENGINE }));
     let filtered = |&(name, inspect)| fault(name, "inspect", Calls { inspect, ..ENGINE });
     let others = other_faults().into_iter().chain(FILTERS.iter().map(filtered));
-    steps.chain(wrong_foundings()).chain(others).collect()
+    steps.chain(wrong_foundings()).chain(wrong_sheets()).chain(others).collect()
 }
 
 /// Wrong foundings of both forms.
@@ -81,7 +82,15 @@ fn wrong_foundings() -> Vec<Fault> {
     UNNAMED.iter().map(unnamed).chain(NAMED.iter().map(named)).collect()
 }
 
-/// Wrong calls other than steps and foundings, and programs that are no ring at all.
+/// Wrong readings and writings of sheets.
+fn wrong_sheets() -> Vec<Fault> {
+    let fault = |name, calls| Fault { name, part: "sheets", calls };
+    let read = |&(name, sheet_read)| fault(name, Calls { sheet_read, ..ENGINE });
+    let write = |&(name, sheet_write)| fault(name, Calls { sheet_write, ..ENGINE });
+    READS.iter().map(read).chain(WRITES.iter().map(write)).collect()
+}
+
+/// Wrong calls other than these, and programs that are no ring at all.
 fn other_faults() -> [Fault; 6] {
     let fault = |name, part, calls| Fault { name, part, calls };
     let witness = Calls { word_step: refuses_words, ..ENGINE };
@@ -113,12 +122,16 @@ impl Fault {
     }
 }
 
-/// That `inspect` passes behind a filter that changes nothing: it is the faults that are seen
-/// there, not the filter.
-pub fn filter_passes(seed: u64) -> (&'static str, bool) {
-    let calls = Calls { inspect: NO_FAULT, ..ENGINE };
-    let name = "a filter that changes nothing is not found wrong";
-    (name, !Fault { name, part: "inspect", calls }.is_seen_within(seed, UNFAULTED))
+/// That `inspect` passes behind a filter that changes nothing, and the sheet calls behind what
+/// makes them wrong elsewhere: it is the faults that are seen there, not their wrapping.
+pub fn wrappings_pass(seed: u64) -> [(&'static str, bool); 2] {
+    let filter = Calls { inspect: NO_FAULT, ..ENGINE };
+    let sheets = Calls { sheet_read: same_read, sheet_write: same_write, ..ENGINE };
+    [
+        ("a filter that changes nothing is not found wrong", "inspect", filter),
+        ("sheet calls that change nothing are not found wrong", "sheets", sheets),
+    ]
+    .map(|(name, part, calls)| (name, !Fault { name, part, calls }.is_seen_within(seed, UNFAULTED)))
 }
 
 fn answer_differs(words: &mut [u8], operation: u32, x: u32, y: u32, out: &mut [u8]) -> u32 {

@@ -5,7 +5,7 @@ use ring_model::frames::{decode, Frame, FOUNDER};
 use ring_model::step::smallest;
 
 use crate::form::Form;
-use crate::reached::{add_all, Cells};
+use crate::reached::{add_all, by_number, Cells};
 
 /// Which numbers each form can give; 0 stands for no refusal.
 const OF_FRESH: [usize; 4] = [0, 1, 13, 14];
@@ -64,14 +64,11 @@ impl Founded {
 
     /// The table: names and counts.
     pub fn rows(&self) -> Vec<(&'static str, Cells)> {
-        let of = |numbers: &[usize], counts: &[u64]| {
-            numbers.iter().map(|&number| (Some(number), counts[number])).collect::<Cells>()
-        };
-        let at = |counts: &[u64]| of(&[0, 1, 2], counts);
+        let at = |counts: &[u64]| by_number(&[0, 1, 2], counts);
         vec![
-            ("fresh, 0 or refused by", of(&OF_FRESH, &self.fresh)),
-            ("fresh by a hub that is named, 0 or refused by", of(&OF_FRESH, &self.fresh_by)),
-            ("fresh by a founder that is none, refused by", of(&OF_NONE, &self.none)),
+            ("fresh, 0 or refused by", by_number(&OF_FRESH, &self.fresh)),
+            ("fresh by a hub that is named, 0 or refused by", by_number(&OF_FRESH, &self.fresh_by)),
+            ("fresh by a founder that is none, refused by", by_number(&OF_NONE, &self.none)),
             ("founded by the smallest: first 0, between 1, last 2", at(&self.smallest_at)),
             ("founded by the one named: first 0, between 1, last 2", at(&self.named_at)),
             ("ringrun: foundings whose first hub is not the smallest", vec![(None, self.frames)]),

@@ -44,8 +44,7 @@ fn found(
         _ => RECORD_BYTES + generator.below(6) as usize,
     };
     let over = generator.below(4) as usize;
-    let mut lent = Lent::new(generator, identifiers.len() + over);
-    lent.put(identifiers);
+    let mut lent = Lent::holding(generator, identifiers, over);
     let mut pair = Pair::new(generator, calls, length, 0);
     pair.found(form, &mut lent, reached).map_err(|what| format!("record of {length} bytes: {what}"))
 }

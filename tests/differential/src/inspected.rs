@@ -8,7 +8,7 @@ use ring_model::tally::REFUSED;
 use ring_model::Tally;
 
 use crate::founded::passes_over_the_smallest;
-use crate::reached::{add_all, Cells};
+use crate::reached::{add_all, by_number, Cells};
 
 /// The answers by their kinds, as `inspect` names them, and the states and kinds of messages.
 const ANSWERS: [&str; 8] = [
@@ -180,22 +180,19 @@ impl Inspected {
 
     /// The table: names and counts.
     pub fn rows(&self) -> Vec<(&'static str, Cells)> {
-        let of = |numbers: &[usize], counts: &Numbers| {
-            numbers.iter().map(|&number| (Some(number), counts[number])).collect::<Cells>()
-        };
         let from = |first: usize, counts: &[u64]| {
             let cells = counts.iter().enumerate();
             cells.map(|(place, &count)| (Some(first + place), count)).collect::<Cells>()
         };
         let one = |count: u64| vec![(None, count)];
         vec![
-            ("inspect: foundings, 0 or refused by", of(&OF_FRESH, &self.fresh)),
+            ("inspect: foundings, 0 or refused by", by_number(&OF_FRESH, &self.fresh)),
             ("inspect: foundings whose first hub is not the smallest", one(self.first_founds)),
-            ("inspect: steps, 0 or refused by", of(&OF_STEP, &self.step)),
-            ("inspect: rows, 0 or none by", of(&OF_ROW, &self.row)),
-            ("inspect: rolls, 0 or refused by", of(&OF_ROLL, &self.roll)),
-            ("inspect: owners, 0 or refused by", of(&OF_OWNER, &self.owner)),
-            ("inspect: waiting, 0 or refused by", of(&OF_WAITING, &self.waiting)),
+            ("inspect: steps, 0 or refused by", by_number(&OF_STEP, &self.step)),
+            ("inspect: rows, 0 or none by", by_number(&OF_ROW, &self.row)),
+            ("inspect: rolls, 0 or refused by", by_number(&OF_ROLL, &self.roll)),
+            ("inspect: owners, 0 or refused by", by_number(&OF_OWNER, &self.owner)),
+            ("inspect: waiting, 0 or refused by", by_number(&OF_WAITING, &self.waiting)),
             ("inspect: answers by kind", from(0, &self.answers)),
             ("inspect: rows by state", from(0, &self.states)),
             ("inspect: messages by kind", from(1, &self.kinds)),

@@ -24,6 +24,13 @@ impl Lent {
         Lent { expected: engine.clone(), engine, start, length }
     }
 
+    /// Memory that begins with these bytes, and has as many more as are over.
+    pub fn holding(generator: &mut Generator, bytes: &[u8], over: usize) -> Lent {
+        let mut lent = Lent::new(generator, bytes.len() + over);
+        lent.put(bytes);
+        lent
+    }
+
     /// What is lent to the engine.
     pub fn engine(&mut self) -> &mut [u8] {
         &mut self.engine[self.start..self.start + self.length]
@@ -65,6 +72,15 @@ impl Lent {
             self.length
         ))
     }
+}
+
+/// What differs after a call: its number, or a byte of what was lent under these names.
+pub fn compare(code: u32, should: u32, lent: &[(&str, &Lent)]) -> Result<(), String> {
+    if code != should {
+        return Err(format!("returns {code}, should return {should}"));
+    }
+    let difference = lent.iter().find_map(|(name, lent)| lent.difference(name));
+    difference.map_or(Ok(()), Err)
 }
 
 /// As many random bytes.

@@ -1,6 +1,7 @@
 //! The engine beside the model of documents 01 and 02: the C calls on lent bytes, `ringrun` and
-//! `inspect`, on random and on hostile input. Every returned number, every byte of record and
-//! output, and the bytes around them are compared; runs from fresh are held to demand 3 as well.
+//! `inspect`, on random and on hostile input, office sheets among it. Every returned number, every
+//! byte of record and output, and the bytes around them are compared; runs from fresh are held to
+//! demand 3 as well.
 //!
 //! Usage, from the repository's folder: `differential SEED SECONDS`, or `differential SEED 0 PART
 //! BATCH` to run one batch again.
@@ -33,6 +34,7 @@ mod ring;
 mod runs;
 mod schedule;
 mod scripts;
+mod sheets;
 mod states;
 mod trail;
 mod trouble;
@@ -48,10 +50,13 @@ use crate::calls::ENGINE;
 use crate::parts::PARTS;
 use crate::reached::Reached;
 use crate::schedule::{run_all, Report};
+use crate::sheets::counts::Sheets;
 
-/// From so many calls on, and so many lines of `inspect`, everything must have been reached.
+/// From so many calls on, so many lines of `inspect` and so many texts that might be sheets,
+/// everything must have been reached.
 const ENOUGH: u64 = 1_000_000;
 const ENOUGH_LINES: u64 = 150_000;
+const ENOUGH_TEXTS: u64 = 2_000_000;
 /// A run of so many seconds, as the gate's is, must make so many calls. A shorter one may make
 /// fewer, and then says that it skips the test of what was reached.
 const LONG: u64 = 60;
@@ -89,7 +94,7 @@ fn main() -> ExitCode {
 fn planted(seed: u64, score: &mut Score) {
     let mut cases = wrong_claims::cases();
     cases.extend(faults::faults().iter().map(|fault| (fault.name, fault.is_seen(seed))));
-    cases.push(faults::filter_passes(seed));
+    cases.extend(faults::wrappings_pass(seed));
     println!("{} planted faults", cases.len());
     for (name, seen) in cases {
         if !seen {
@@ -118,10 +123,11 @@ fn all(seed: u64, seconds: u64) -> ExitCode {
         score.note(report.differences.is_empty() && report.batches > 0);
     }
     println!(
-        "in all: {} calls, {:.0} a second, and {} lines",
+        "in all: {} calls, {:.0} a second, {} lines, and {} texts",
         sum.calls,
         sum.calls as f64 / took,
-        sum.lines
+        sum.lines,
+        sum.sheets.texts
     );
     print!("reached:\n{}", sum.table());
     match too_few(&sum) {
@@ -136,8 +142,11 @@ fn too_few(sum: &Reached) -> Option<String> {
     if sum.calls < ENOUGH {
         return Some(format!("fewer than {ENOUGH} calls were made"));
     }
-    let few = sum.inspected.lines < ENOUGH_LINES;
-    few.then(|| format!("inspect answered fewer than {ENOUGH_LINES} lines"))
+    if sum.inspected.lines < ENOUGH_LINES {
+        return Some(format!("inspect answered fewer than {ENOUGH_LINES} lines"));
+    }
+    let few = sum.sheets.texts < ENOUGH_TEXTS;
+    few.then(|| format!("fewer than {ENOUGH_TEXTS} texts were read as sheets"))
 }
 
 /// Whether there were enough calls, and nothing was left out by all of them.
@@ -157,11 +166,13 @@ fn reached_all(sum: &Reached) -> bool {
 fn line(name: &str, report: &Report) -> String {
     let Report { reached, batches, time, .. } = report;
     let (calls, tried, lines) = (reached.calls, reached.tried, reached.lines);
-    let rate = (calls + lines) as f64 / time.as_secs_f64().max(0.001);
-    let counts = match (tried, lines) {
-        (0, 0) => format!("{calls} calls"),
-        (_, 0) => format!("{calls} calls, {tried} deliveries tried on copies"),
-        _ => format!("{lines} lines"),
+    let Sheets { texts, lists, .. } = reached.sheets;
+    let rate = (calls + lines + texts + lists) as f64 / time.as_secs_f64().max(0.001);
+    let counts = match (tried, lines, texts) {
+        (0, 0, 0) => format!("{calls} calls"),
+        (_, 0, 0) => format!("{calls} calls, {tried} deliveries tried on copies"),
+        (_, _, 0) => format!("{lines} lines"),
+        _ => format!("{texts} texts read, {lists} lists written"),
     };
     format!("{name}: {batches} batches, {counts}; {rate:.0} a second and thread")
 }

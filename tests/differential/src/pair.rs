@@ -6,7 +6,7 @@ use ring_model::Command;
 
 use crate::calls::{answer_of, words_of, Calls};
 use crate::form::Form;
-use crate::lent::Lent;
+use crate::lent::{compare, Lent};
 use crate::reached::Reached;
 
 /// A record and an output, twice.
@@ -63,10 +63,6 @@ impl Pair {
     }
 
     fn compare(&self, code: u32, should: u32) -> Result<(), String> {
-        if code != should {
-            return Err(format!("returns {code}, should return {should}"));
-        }
-        let difference = self.record.difference("record").or_else(|| self.out.difference("output"));
-        difference.map_or(Ok(()), Err)
+        compare(code, should, &[("record", &self.record), ("output", &self.out)])
     }
 }

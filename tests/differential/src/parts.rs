@@ -7,7 +7,7 @@ use ring_model::generator::Generator;
 
 use crate::calls::Calls;
 use crate::reached::Reached;
-use crate::{damaged, founding, lengths, program, runs, unreachable};
+use crate::{damaged, founding, lengths, program, runs, sheets, unreachable};
 
 /// A batch of calls: everything random in it comes from the generator.
 pub type Batch = fn(&mut Generator, Calls, u64, &mut Reached) -> Result<(), String>;
@@ -23,13 +23,14 @@ pub struct Part {
 }
 
 /// All parts.
-pub const PARTS: [Part; 8] = [
-    Part { name: "runs", share: 40, batch: runs::batch },
+pub const PARTS: [Part; 9] = [
+    Part { name: "runs", share: 34, batch: runs::batch },
     Part { name: "witnessed", share: 8, batch: runs::witnessed_batch },
-    Part { name: "unreachable", share: 16, batch: unreachable::batch },
-    Part { name: "damaged", share: 14, batch: damaged::batch },
+    Part { name: "unreachable", share: 12, batch: unreachable::batch },
+    Part { name: "damaged", share: 10, batch: damaged::batch },
     Part { name: "lengths", share: 3, batch: lengths::batch },
     Part { name: "founding", share: 3, batch: founding::batch },
+    Part { name: "sheets", share: 14, batch: sheets::batch },
     Part { name: "ringrun", share: 10, batch: program::batch },
     Part { name: "inspect", share: 6, batch: program::inspect_batch },
 ];

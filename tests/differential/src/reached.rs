@@ -8,8 +8,10 @@ use ring_model::{Answer, Command};
 use crate::form::Form;
 use crate::founded::Founded;
 use crate::inspected::Inspected;
+use crate::sheets::counts::Sheets;
 
-/// Refusal numbers of the C calls: 1 to 15, 17 and 18. 16 is the roll call's, which C has not.
+/// Refusal numbers of the ring's C calls: 1 to 15, 17 and 18. 16 is the roll call's, which C has
+/// not.
 const REFUSALS: [usize; 17] = [1, 2, 3, 4, 5, 6, 7, 8, 9, 10, 11, 12, 13, 14, 15, 17, 18];
 
 /// Counts by their numbers; a count of its own has no number.
@@ -28,6 +30,8 @@ pub struct Reached {
     pub founded: Founded,
     /// What `inspect` said.
     pub inspected: Inspected,
+    /// What the sheets were about. Their calls are counted there alone.
+    pub sheets: Sheets,
     /// The most nodes that were in the ledger at once.
     pub most_members: u64,
     refusals: [u64; 19],
@@ -104,6 +108,7 @@ impl Reached {
         self.lines += other.lines;
         self.founded.add(&other.founded);
         self.inspected.add(&other.inspected);
+        self.sheets.add(&other.sheets);
         self.most_members = self.most_members.max(other.most_members);
         add_all(&mut self.refusals, &other.refusals);
         add_all(&mut self.answers, &other.answers);
@@ -126,10 +131,9 @@ impl Reached {
             cells.map(|(number, &count)| (Some(number), count)).collect::<Cells>()
         };
         let one = |count: u64| vec![(None, count)];
-        let refusals = REFUSALS.iter().map(|&number| (Some(number), self.refusals[number]));
         let least_tried = self.receivers[1..].iter().flatten().copied().min();
         let calls = [
-            ("refusals by number", refusals.collect()),
+            ("refusals by number", by_number(&REFUSALS, &self.refusals)),
             ("answers by kind", from(0, &self.answers)),
             ("messages delivered, by kind", from(1, &self.delivered)),
             ("messages refused by 10, by kind", from(1, &self.not_expected)),
@@ -141,7 +145,8 @@ impl Reached {
             ("LOOKUPs delivered with hops at 65535", one(self.hops_stay)),
             ("LOOKUPs delivered to their own sender", one(self.to_itself)),
         ];
-        calls.into_iter().chain(self.founded.rows()).chain(self.inspected.rows()).collect()
+        let others = [self.founded.rows(), self.inspected.rows(), self.sheets.rows()];
+        calls.into_iter().chain(others.into_iter().flatten()).collect()
     }
 
     /// The table as text.
@@ -167,6 +172,11 @@ impl Reached {
         }
         names
     }
+}
+
+/// Counts at these numbers.
+pub fn by_number(numbers: &[usize], counts: &[u64]) -> Cells {
+    numbers.iter().map(|&number| (Some(number), counts[number])).collect()
 }
 
 /// Adds counts one by one.

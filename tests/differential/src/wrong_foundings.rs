@@ -48,7 +48,7 @@ fn reads_left_over(words: &mut [u8], identifiers: &[u8]) -> u32 {
 }
 
 /// Left-over bytes made a whole identifier.
-fn with_left_over(identifiers: &[u8]) -> Vec<u8> {
+pub fn with_left_over(identifiers: &[u8]) -> Vec<u8> {
     let mut longer = identifiers.to_vec();
     longer.resize(identifiers.len().div_ceil(4) * 4, 0);
     longer
