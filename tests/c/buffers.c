@@ -1,7 +1,8 @@
 /*
  * The C calls at the edges of their buffers: every length around what is needed, left-over bytes, refusals; and what C reads of a question's
- * hops. All is done twice: with guard bytes on both sides of each buffer, which no call may touch, and with none, so that valgrind or
- * AddressSanitizer sees the first byte that is read or written beside a buffer. Prints 'N passed, M failed'.
+ * hops. All is done three times: with guard bytes on both sides of each buffer, which no call may touch; with so few of them that no buffer
+ * begins at a multiple of 2; and with none, so that valgrind or AddressSanitizer sees the first byte that is read or written beside a buffer.
+ * Prints 'N passed, M failed'.
  */
 #include <stdio.h>
 
@@ -130,11 +131,12 @@ static void owner_refused(void)
 
 int main(void)
 {
-    static const size_t guards[] = {64, 0};
+    static const size_t guards[] = {64, 3, 0};
     if (ring_fresh(ring, sizeof ring, identifiers, sizeof identifiers) != RING_OK) return 2;
-    for (size_t k = 0; k < 2; k++) {
+    for (size_t k = 0; k < COUNT(guards); k++) {
         guard = guards[k];
         foundings();
+        sheets();
         step_at_each_length();
         record_of_each_length();
         step_refused();

@@ -15,7 +15,12 @@
 extern unsigned passed, failed;
 extern size_t guard; /* guard bytes on each side */
 
+#define COUNT(list) (sizeof(list) / sizeof *(list))
+
 void expect(int holds, const char *what);
+
+/* Puts word i of a buffer of words: what ring_word reads there. */
+void put(uint8_t *bytes, size_t i, uint32_t value);
 
 struct buffer {
     uint8_t *all, *bytes;
@@ -34,7 +39,8 @@ int unchanged(const struct buffer *b, const uint8_t *content, size_t content_len
 #define LENGTHS 12
 extern const size_t lengths[LENGTHS];
 
-/* The tests of the calls that found a ring (founding.c). */
+/* The tests of the calls that found a ring (founding.c), and of those on an office sheet (sheet.c). */
 void foundings(void);
+void sheets(void);
 
 #endif

@@ -6,7 +6,6 @@
 #include "buffers.h"
 
 #define NONE 255u
-#define COUNT(list) (sizeof(list) / sizeof *(list))
 
 /* How a ring is founded: no founder is named, or this one. */
 struct form {
@@ -24,11 +23,6 @@ static struct form by(uint32_t founder)
 
 /* Forms for the tests in which it matters little who founds; of two hubs or 64, the last two founders are none. */
 static const struct form forms[] = {{0, 0}, {1, 0}, {1, 1}, {1, 64}, {1, 4294967295u}};
-
-static void put(uint8_t *bytes, size_t i, uint32_t value)
-{
-    for (size_t k = 0; k < 4; k++) bytes[4 * i + k] = (uint8_t)(value >> 8 * k);
-}
 
 /* Identifiers as they are lent, with room for one too many and for three bytes left over. */
 struct list {

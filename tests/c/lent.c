@@ -19,6 +19,11 @@ void expect(int holds, const char *what)
     printf("FAILED: %s\n", what);
 }
 
+void put(uint8_t *bytes, size_t i, uint32_t value)
+{
+    for (size_t k = 0; k < 4; k++) bytes[4 * i + k] = (uint8_t)(value >> 8 * k);
+}
+
 struct buffer lend(const uint8_t *content, size_t content_len, size_t len)
 {
     struct buffer b = {malloc(guard + len + guard), NULL, len};
