@@ -19,6 +19,14 @@ uint32_t model_fresh(uint8_t *words, size_t words_len, const uint8_t *identifier
 uint32_t model_fresh_by(uint8_t *words, size_t words_len, const uint8_t *identifiers, size_t identifiers_len, uint32_t founder);
 uint32_t model_step(uint8_t *words, size_t words_len, uint32_t operation, uint32_t x, uint32_t y, uint8_t *out, size_t out_len);
 uint32_t model_owner(const uint8_t *words, size_t words_len, uint32_t number, uint8_t *out, size_t out_len);
+uint32_t traced_sheet_read(const uint8_t *text, size_t text_len, uint8_t *identifiers, size_t identifiers_len, uint8_t *names, size_t names_len,
+                           uint8_t *counts, size_t counts_len);
+uint32_t traced_sheet_write(const uint8_t *names, size_t names_len, const uint8_t *identifiers, size_t identifiers_len, uint8_t *text,
+                            size_t text_len, uint8_t *counts, size_t counts_len);
+uint32_t model_sheet_read(const uint8_t *text, size_t text_len, uint8_t *identifiers, size_t identifiers_len, uint8_t *names, size_t names_len,
+                          uint8_t *counts, size_t counts_len);
+uint32_t model_sheet_write(const uint8_t *names, size_t names_len, const uint8_t *identifiers, size_t identifiers_len, uint8_t *text,
+                           size_t text_len, uint8_t *counts, size_t counts_len);
 
 #define MOST_BYTES (RING_RECORD_BYTES + 64u)
 #define RECORD_WORDS (RING_RECORD_BYTES / 4u)

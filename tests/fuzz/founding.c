@@ -1,5 +1,4 @@
 /* The calls that found a ring, made in several ways and held to what the documents say of them. See calls.h. */
-#include <stdio.h>
 #include <stdlib.h>
 #include <string.h>
 
@@ -14,29 +13,6 @@ struct forms {
 static const struct forms shipped = {ring_fresh, ring_fresh_by};
 static const struct forms traced = {traced_fresh, traced_fresh_by};
 static const struct forms model = {model_fresh, model_fresh_by};
-
-/* How often each form returned each number, for the last lines of a run. tests/fuzz/run looks there whether the seeds reach them all. */
-static unsigned long long returned[2][RING_NO_FOUNDER + 1];
-
-static void say_returned(void)
-{
-    static const char *const names[2] = {"ring_fresh", "ring_fresh_by"};
-    for (unsigned form = 0; form < 2; form++) {
-        fprintf(stderr, "calls of %s by return", names[form]);
-        for (unsigned code = 0; code <= RING_NO_FOUNDER; code++)
-            if (returned[form][code] != 0) fprintf(stderr, ", %u: %llu", code, returned[form][code]);
-        fprintf(stderr, "\n");
-    }
-}
-
-static void count_founding(int named, uint32_t code)
-{
-    static int counts;
-    count_call();
-    if (!counts) atexit(say_returned);
-    counts = 1;
-    returned[named != 0][code]++;
-}
 
 static struct made by_fresh(const struct forms *call, const struct ring *ring, const struct founding *f, size_t guard)
 {
@@ -91,7 +67,7 @@ uint32_t checked_fresh(struct ring *ring, const struct founding *f)
     must_agree(&first, &by_traced, "fresh: the archive and the traced engine differ");
     must_agree(&first, &by_model, "fresh: engine and model differ");
     must_be_return(f, code);
-    count_founding(f->named, code);
+    count_return(f->named ? FRESH_BY : FRESH, code);
     if (code == RING_OK) {
         must_be_well_formed(ring, &first);
         must_be_founded(first.words.bytes, f);

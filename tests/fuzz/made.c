@@ -14,16 +14,31 @@ void must(int holds, const char *what)
     abort();
 }
 
-static unsigned long long compared;
+static unsigned long long compared, returned[TOLD][RING_ROOM_SHORT + 1], made[TOLD];
 
 static void say_compared(void)
 {
+    static const char *const names[TOLD] = {"ring_fresh", "ring_fresh_by", "ring_sheet_read", "ring_sheet_write"};
     fprintf(stderr, "calls compared: %llu\n", compared);
+    for (unsigned call = 0; call < TOLD; call++) {
+        if (made[call] == 0) continue;
+        fprintf(stderr, "calls of %s by return", names[call]);
+        for (unsigned code = 0; code <= RING_ROOM_SHORT; code++)
+            if (returned[call][code] != 0) fprintf(stderr, ", %u: %llu", code, returned[call][code]);
+        fprintf(stderr, "\n");
+    }
 }
 
 void count_call(void)
 {
     if (compared++ == 0) atexit(say_compared);
+}
+
+void count_return(enum told call, uint32_t code)
+{
+    count_call();
+    made[call]++;
+    returned[call][code]++;
 }
 
 void put_word(struct ring *ring, size_t i, uint32_t value)
@@ -53,7 +68,7 @@ int guards_stand(const struct buffer *b)
     return all_marks(b->all, b->guard) && all_marks(b->bytes + b->len, b->guard);
 }
 
-static int same_bytes(const struct buffer *a, const struct buffer *b)
+int same_bytes(const struct buffer *a, const struct buffer *b)
 {
     return a->len == 0 || memcmp(a->bytes, b->bytes, a->len) == 0;
 }

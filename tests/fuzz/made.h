@@ -1,5 +1,5 @@
 /*
- * What a call made of the buffers that it was lent, and what must hold of that whichever call it was. For calls.c and founding.c.
+ * What a call made of the buffers that it was lent, and what must hold of that whichever call it was. For calls.c, founding.c and office.c.
  */
 #ifndef MADE_H
 #define MADE_H
@@ -21,6 +21,7 @@ struct buffer {
 struct buffer lend(const uint8_t *content, size_t len, size_t guard);
 int all_marks(const uint8_t *bytes, size_t len);
 int guards_stand(const struct buffer *b);
+int same_bytes(const struct buffer *a, const struct buffer *b);
 
 /* What a call made of its own copy of the record, and of an output full of marks. */
 struct made {
@@ -39,7 +40,31 @@ void must_leave_all(const struct ring *ring, const struct made *m);
 /* After an accepted call: the tails stay, and both calls find the record well formed. */
 void must_be_well_formed(const struct ring *ring, const struct made *m);
 
-/* How many calls were compared, for the last lines of a run. */
+/*
+ * How many calls were compared, for the last lines of a run; and of these calls, how often each returned each number. tests/fuzz/run looks there
+ * whether the seeds reach them all.
+ */
+enum told { FRESH, FRESH_BY, SHEET_READ, SHEET_WRITE, TOLD };
 void count_call(void);
+void count_return(enum told call, uint32_t code);
+
+/* A call on an office sheet: what it reads; or, where there is nothing to read (NULL), how many bytes it is lent for writing. */
+struct part {
+    const uint8_t *at;
+    size_t len;
+};
+struct request {
+    enum told call;
+    struct part text, identifiers, names, counts;
+};
+
+/* What such a call made of its own copy of each buffer. */
+struct sheet {
+    struct buffer text, identifiers, names, counts;
+    uint32_t code;
+};
+
+struct sheet checked_sheet(const struct request *r);
+void give_back(struct sheet *s);
 
 #endif

@@ -2,15 +2,23 @@
 
 use std::slice::{from_raw_parts, from_raw_parts_mut};
 
-use ring_model::{bytes, ringrun};
+use ring_model::{bytes, ringrun, sheet};
 
 /// `ring_fresh` as the model has it.
 ///
 /// # Safety
 /// Each pointer is valid for its length, and the buffers do not overlap.
 #[no_mangle]
-pub unsafe extern "C" fn model_fresh(words: *mut u8, words_len: usize, identifiers: *const u8, identifiers_len: usize) -> u32 {
-    bytes::ring_fresh(from_raw_parts_mut(words, words_len), from_raw_parts(identifiers, identifiers_len))
+pub unsafe extern "C" fn model_fresh(
+    words: *mut u8,
+    words_len: usize,
+    identifiers: *const u8,
+    identifiers_len: usize,
+) -> u32 {
+    bytes::ring_fresh(
+        from_raw_parts_mut(words, words_len),
+        from_raw_parts(identifiers, identifiers_len),
+    )
 }
 
 /// `ring_fresh_by` as the model has it.
@@ -18,8 +26,18 @@ pub unsafe extern "C" fn model_fresh(words: *mut u8, words_len: usize, identifie
 /// # Safety
 /// As for `model_fresh`.
 #[no_mangle]
-pub unsafe extern "C" fn model_fresh_by(words: *mut u8, words_len: usize, identifiers: *const u8, identifiers_len: usize, founder: u32) -> u32 {
-    bytes::ring_fresh_by(from_raw_parts_mut(words, words_len), from_raw_parts(identifiers, identifiers_len), founder)
+pub unsafe extern "C" fn model_fresh_by(
+    words: *mut u8,
+    words_len: usize,
+    identifiers: *const u8,
+    identifiers_len: usize,
+    founder: u32,
+) -> u32 {
+    bytes::ring_fresh_by(
+        from_raw_parts_mut(words, words_len),
+        from_raw_parts(identifiers, identifiers_len),
+        founder,
+    )
 }
 
 /// `ring_step` as the model has it.
@@ -27,8 +45,22 @@ pub unsafe extern "C" fn model_fresh_by(words: *mut u8, words_len: usize, identi
 /// # Safety
 /// As for `model_fresh`.
 #[no_mangle]
-pub unsafe extern "C" fn model_step(words: *mut u8, words_len: usize, operation: u32, x: u32, y: u32, out: *mut u8, out_len: usize) -> u32 {
-    bytes::ring_step(from_raw_parts_mut(words, words_len), operation, x, y, from_raw_parts_mut(out, out_len))
+pub unsafe extern "C" fn model_step(
+    words: *mut u8,
+    words_len: usize,
+    operation: u32,
+    x: u32,
+    y: u32,
+    out: *mut u8,
+    out_len: usize,
+) -> u32 {
+    bytes::ring_step(
+        from_raw_parts_mut(words, words_len),
+        operation,
+        x,
+        y,
+        from_raw_parts_mut(out, out_len),
+    )
 }
 
 /// `ring_owner` as the model has it.
@@ -36,8 +68,64 @@ pub unsafe extern "C" fn model_step(words: *mut u8, words_len: usize, operation:
 /// # Safety
 /// As for `model_fresh`.
 #[no_mangle]
-pub unsafe extern "C" fn model_owner(words: *const u8, words_len: usize, number: u32, out: *mut u8, out_len: usize) -> u32 {
-    bytes::ring_owner(from_raw_parts(words, words_len), number, from_raw_parts_mut(out, out_len))
+pub unsafe extern "C" fn model_owner(
+    words: *const u8,
+    words_len: usize,
+    number: u32,
+    out: *mut u8,
+    out_len: usize,
+) -> u32 {
+    bytes::ring_owner(
+        from_raw_parts(words, words_len),
+        number,
+        from_raw_parts_mut(out, out_len),
+    )
+}
+
+/// `ring_sheet_read` as the model has it.
+///
+/// # Safety
+/// As for `model_fresh`.
+#[no_mangle]
+pub unsafe extern "C" fn model_sheet_read(
+    text: *const u8,
+    text_len: usize,
+    identifiers: *mut u8,
+    identifiers_len: usize,
+    names: *mut u8,
+    names_len: usize,
+    counts: *mut u8,
+    counts_len: usize,
+) -> u32 {
+    sheet::read_bytes(
+        from_raw_parts(text, text_len),
+        from_raw_parts_mut(identifiers, identifiers_len),
+        from_raw_parts_mut(names, names_len),
+        from_raw_parts_mut(counts, counts_len),
+    )
+}
+
+/// `ring_sheet_write` as the model has it.
+///
+/// # Safety
+/// As for `model_fresh`.
+#[no_mangle]
+pub unsafe extern "C" fn model_sheet_write(
+    names: *const u8,
+    names_len: usize,
+    identifiers: *const u8,
+    identifiers_len: usize,
+    text: *mut u8,
+    text_len: usize,
+    counts: *mut u8,
+    counts_len: usize,
+) -> u32 {
+    sheet::write_bytes(
+        from_raw_parts(names, names_len),
+        from_raw_parts(identifiers, identifiers_len),
+        from_raw_parts_mut(text, text_len),
+        from_raw_parts_mut(counts, counts_len),
+    )
 }
 
 /// What the model's `ringrun` prints for the input; answers how many bytes that is. Bytes that find no room are counted, not written.
@@ -45,7 +133,12 @@ pub unsafe extern "C" fn model_owner(words: *const u8, words_len: usize, number:
 /// # Safety
 /// As for `model_fresh`.
 #[no_mangle]
-pub unsafe extern "C" fn model_ringrun(input: *const u8, input_len: usize, out: *mut u8, out_len: usize) -> usize {
+pub unsafe extern "C" fn model_ringrun(
+    input: *const u8,
+    input_len: usize,
+    out: *mut u8,
+    out_len: usize,
+) -> usize {
     let mut printed = Vec::new();
     ringrun::run(from_raw_parts(input, input_len), &mut printed).expect("memory takes every write");
     let kept = printed.len().min(out_len);
