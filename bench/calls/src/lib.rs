@@ -1,13 +1,14 @@
-//! The calls of `include/ring.h` of the models, under names of their own, so
-//! that all contestants are called alike: as C calls them, by pointer and
-//! length. This crate is compiled by itself and nothing of it is inlined.
+//! The calls of `include/ring.h` of the models, and of the `csv` crate for the
+//! sheet, under names of their own, so that all contestants are called alike:
+//! as C calls them, by pointer and length. This crate is compiled by itself and
+//! nothing of it is inlined.
 //!
 //! # Safety
 //!
 //! As `ring.h` has it: each pointer is valid for the length that goes with
 //! it, and no two of one call overlap.
 
-#![allow(clippy::missing_safety_doc)]
+#![allow(clippy::missing_safety_doc, clippy::too_many_arguments)]
 
 use std::mem::size_of;
 use std::slice::{from_raw_parts, from_raw_parts_mut};
@@ -17,6 +18,10 @@ use ring_model_one::bytes as plain_one;
 use ring_tuned::bytes as tuned;
 use ring_tuned::bytes::in_place;
 use ring_tuned::{Fields, Ranges};
+
+mod sheet;
+
+pub use sheet::{csv_sheet_read, csv_sheet_write};
 
 /// The step and the owner query of a model that takes the lent bytes as this
 /// type: bytes, or fours of them, which may lie at any address too.

@@ -1,5 +1,6 @@
-//! Measures the engine against the models, prints a table, and writes it with
-//! a plot: `bench/run`, or `bench/run --quick` for a short try.
+//! Measures the engine against the models, and the sheet against the `csv`
+//! crate, prints the tables, and writes them with a plot: `bench/run`, or
+//! `bench/run --quick` for a short try.
 
 mod cases;
 mod contestants;
@@ -11,6 +12,8 @@ mod programs;
 mod ratios;
 mod records;
 mod report;
+mod sheet;
+mod turns;
 
 use std::{env, fs, io, process};
 
@@ -23,6 +26,7 @@ struct Effort {
     rounds: usize,
     frames: usize,
     runs: usize,
+    sheet_rounds: usize,
     folder: &'static str,
 }
 
@@ -31,6 +35,7 @@ const FULL: Effort = Effort {
     rounds: 600,
     frames: 100_000,
     runs: 45,
+    sheet_rounds: 180,
     folder: "docs",
 };
 /// A try that everything runs; it leaves the documents as they are.
@@ -38,6 +43,7 @@ const QUICK: Effort = Effort {
     rounds: 12,
     frames: 20_000,
     runs: 3,
+    sheet_rounds: 6,
     folder: "target/bench",
 };
 
@@ -53,9 +59,10 @@ fn main() -> io::Result<()> {
     };
     let table = points(effort.rounds);
     let programs = programs::measure(effort.frames, effort.runs)?;
+    let sheets = sheet::measure(effort.sheet_rounds);
     let document = format!("{}/BENCH.md", effort.folder);
     let older = fs::read_to_string(&document).unwrap_or_default();
-    let text = report::text(&table, &programs, &older);
+    let text = report::text(&table, &programs, &sheets, &older);
     print!("{text}");
     let panels = sweeps(effort.rounds);
     fs::write(document, text)?;

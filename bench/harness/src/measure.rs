@@ -7,23 +7,18 @@
 //! each round that memory lies elsewhere, since some places are slow for those
 //! who copy the record. What a call that does nothing takes, measured in the
 //! same way, is subtracted.
-//!
-//! The machine may have other work. So all cases are measured in several
-//! passes, and of a case's rounds only the quieter half counts: those in which
-//! all contestants together took least.
 
 use std::hint::black_box;
 use std::time::Instant;
 
 use crate::cases::Case;
-use crate::contestants::{Contestant, CONTESTANTS, COUNT, ENGINE, IDLE, PLAIN};
+use crate::contestants::{Contestant, CONTESTANTS, COUNT, IDLE, PLAIN};
+use crate::turns::{in_passes, median, Rounds, Time};
 
 /// Copies of a record, each called once in a timed section.
 const COPIES: usize = 3;
 /// Timed sections of one contestant's turn; one more before them is not counted.
 const SECTIONS: usize = 20;
-/// How often all cases take their turn.
-const PASSES: usize = 6;
 /// Bytes of an answer.
 const OUT: usize = 20;
 /// Records begin at a multiple of this, as memory from malloc does.
@@ -32,16 +27,6 @@ const ALIGNED: usize = 16;
 const PAGE: usize = 4096;
 /// How far they move from round to round: all places of a page are met.
 const MOVE: usize = 17 * ALIGNED;
-
-/// Nanoseconds for one call, and the engine's time as a part of it.
-#[derive(Clone, Copy)]
-pub struct Time {
-    pub best: f64,
-    pub median: f64,
-    /// The median of the rounds' ratios: a machine that is slow for a while
-    /// is so for all turns of a round.
-    pub engine: f64,
-}
 
 /// One case's figures, by contestant.
 pub struct Figures {
@@ -96,20 +81,14 @@ impl Room {
 /// Measures all contestants on these cases.
 pub fn measure(cases: impl Iterator<Item = Case>, rounds: usize) -> Vec<Figures> {
     let mut list: Vec<Measurement> = cases.map(Measurement::new).collect();
-    for _ in 0..PASSES {
-        for measurement in &mut list {
-            measurement.pass(rounds / PASSES);
-        }
-    }
+    in_passes(&mut list, rounds, Measurement::pass);
     list.into_iter().map(Measurement::figures).collect()
 }
 
-/// A case, and what was found so far, by contestant.
+/// A case, and what was found so far.
 struct Measurement {
     case: Case,
-    best: [f64; COUNT],
-    /// One median a round.
-    rounds: Vec<[f64; COUNT]>,
+    rounds: Rounds<COUNT>,
 }
 
 impl Measurement {
@@ -117,61 +96,27 @@ impl Measurement {
         agree(&case);
         Measurement {
             case,
-            best: [f64::INFINITY; COUNT],
-            rounds: Vec::new(),
+            rounds: Rounds::new(),
         }
     }
 
     /// So many rounds more.
     fn pass(&mut self, rounds: usize) {
-        let mut room = Room::new(self.case.record.len());
+        let Measurement { case, rounds: all } = self;
+        let mut room = Room::new(case.record.len());
         for _ in 0..rounds {
-            let round = self.round(&mut room);
-            self.rounds.push(round);
+            room.move_on(all.count());
+            let idle = median(&mut room.turn(&IDLE, case));
+            all.round(|who| room.turn(&CONTESTANTS[who], case).map(|time| time - idle));
         }
     }
 
-    /// One turn of each contestant.
-    fn round(&mut self, room: &mut Room) -> [f64; COUNT] {
-        let round = self.rounds.len();
-        room.move_on(round);
-        let idle = median(&mut room.turn(&IDLE, &self.case));
-        let mut medians = [0.0; COUNT];
-        for turn in 0..COUNT {
-            // Forwards and backwards: nobody comes always behind the same other.
-            let stride = [1, COUNT - 1][round / COUNT % 2];
-            let who = (round + turn * stride) % COUNT;
-            let mut times = room.turn(&CONTESTANTS[who], &self.case);
-            medians[who] = median(&mut times) - idle;
-            self.best[who] = self.best[who].min(times[0] - idle);
-        }
-        medians
-    }
-
-    fn figures(mut self) -> Figures {
-        let together = |round: &[f64; COUNT]| round.iter().sum::<f64>();
-        self.rounds
-            .sort_by(|one, other| together(one).total_cmp(&together(other)));
-        let quieter = &self.rounds[..self.rounds.len().div_ceil(2)];
-        let over = |figure: &dyn Fn(&[f64; COUNT]) -> f64| {
-            median(&mut quieter.iter().map(figure).collect::<Vec<_>>())
-        };
-        let times = std::array::from_fn(|who| Time {
-            best: self.best[who],
-            median: over(&|round| round[who]),
-            engine: over(&|round| round[ENGINE] / round[who]),
-        });
+    fn figures(self) -> Figures {
         Figures {
             case: self.case,
-            times,
+            times: self.rounds.times(),
         }
     }
-}
-
-/// The middle of a list, which is left sorted.
-fn median(list: &mut [f64]) -> f64 {
-    list.sort_by(f64::total_cmp);
-    list[list.len() / 2]
 }
 
 /// Nothing is measured that does not do the same: return, output and record

@@ -31,16 +31,9 @@ impl Ratio {
         }
     }
 
-    /// At one point, with a mark where it misses its target; one digit more
-    /// shows a miss that rounding would hide.
+    /// At one point.
     pub fn marked(&self, figures: &Figures) -> String {
-        let part = figures.times[self.other].engine;
-        let missed = self.target.is_some_and(|target| part > target);
-        if missed {
-            format!("{part:.3} (!)")
-        } else {
-            format!("{part:.2}")
-        }
+        marked(figures.times[self.other].engine, self.target)
     }
 
     fn summary(&self, table: &[Figures]) -> String {
@@ -55,6 +48,22 @@ impl Ratio {
         let name = self.name;
         format!("| {name} | {target} | {kept} | {least:.2} | {most:.2} |")
     }
+}
+
+/// A ratio, with a mark where it misses its target; one digit more shows a
+/// miss that rounding would hide.
+pub fn marked(part: f64, target: Option<f64>) -> String {
+    let missed = target.is_some_and(|target| part > target);
+    if missed {
+        format!("{part:.3} (!)")
+    } else {
+        format!("{part:.2}")
+    }
+}
+
+/// How many of these ratios keep their target.
+pub fn kept(ratios: impl Iterator<Item = (f64, f64)>) -> usize {
+    ratios.filter(|(part, target)| part <= target).count()
 }
 
 /// How many points keep each target, and the span of each ratio.
@@ -72,8 +81,7 @@ pub fn summary(table: &[Figures]) -> String {
 
 /// At how many points the engine takes at most this part of another's time.
 pub fn within(table: &[Figures], other: usize, most: f64) -> usize {
-    let parts = table.iter().map(|figures| figures.times[other].engine);
-    parts.filter(|&part| part <= most).count()
+    kept(table.iter().map(|f| (f.times[other].engine, most)))
 }
 
 /// The least and the most of these numbers.

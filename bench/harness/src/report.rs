@@ -8,9 +8,15 @@ use crate::kept::marked;
 use crate::measure::Figures;
 use crate::programs::{Programs, PROGRAMS};
 use crate::ratios::{span, summary, within, RATIOS};
+use crate::sheet;
 
 /// The whole document. What an older one has in its marked part stays.
-pub fn text(table: &[Figures], programs: &Programs, older: &str) -> String {
+pub fn text(
+    table: &[Figures],
+    programs: &Programs,
+    sheets: &[sheet::Figures],
+    older: &str,
+) -> String {
     let mut text = String::from(HEAD);
     let _ = writeln!(text, "Measured on: {}{}.\n", processor(), tools());
     text += &summary(table);
@@ -18,6 +24,7 @@ pub fn text(table: &[Figures], programs: &Programs, older: &str) -> String {
     text += METHOD;
     text += &calls(table);
     text += &ringrun(programs);
+    text += &sheet::section(sheets);
     let _ = write!(text, "\n## The proofs\n\n{}\n", marked(older));
     text
 }
