@@ -1,23 +1,27 @@
 -- The line that `hubsheet` prints for a sheet: the founding frame of its identifiers, or EE and the number of the refusal; LF (10) ends it.
 use mathlib.Core.Path.{_≡_, refl, ap, sym, _∙_, subst}
-use mathlib.Core.Bool.{_&&_}
+use mathlib.Core.Bool.{Bool, true, false, _&&_}
 use mathlib.Core.List.{List, [], _∷_, _++_, append-assoc, append-nil}
-use Prim.Native.Nat.{ℕ, _+_, _*_, _≤_, _<_}
+use Prim.Native.Nat.{ℕ, _+_, _*_, _≤_, _<_, min}
 use native.Mathlib.Numerals.{add-one}
 use native.Mathlib.Omega.{arith}
+use borrow.Author.Tests.{leb-true, leb-false, lt-leb}
 use lib.Dec.{leb}
-use lib.ListN.{length, take, drop, getD, length-append}
-use lib.Seq.{take-suc, take-length, length-take-le}
-use Rattle.lists.specs.Choice.{tested}
-use Rattle.lists.specs.Basics.{every}
+use lib.ListN.{length, take, getD, set, length-append}
+use lib.Seq.{take-suc, take-length, take-all, length-take-le}
+use Rattle.lists.specs.Basics.{if_then_else_, require, every}
+use Rattle.lists.specs.Choice.{on-yes, on-no}
 use Rattle.lists.specs.Splice.{splice}
 use Rattle.protocol.specs.Frames.{print2, print4, print8, refusalText}
-use Rattle.sheets.specs.declared.Outcome.{Outcome}
-use Rattle.sheets.specs.declared.Outcome.the-variants.{Refused, Done}
-use Rattle.sheets.specs.Reader.{Said, nothing, lists, reading}
-use Rattle.sheets.specs.Calls.{SheetRead, laid, isWord, readInto, readCall}
-use Rattle.sheets.specs.Laying.{laid-splice}
-use Rattle.sheets.specs.Writing.{two-pieces, three-pieces}
+use Rattle.protocol.specs.Names.{NO-SHEET, IDENTIFIER-TOO-LARGE, ROOM-SHORT}
+use Rattle.sheets.specs.declared.Ending.{Ending}
+use Rattle.sheets.specs.declared.Ending.the-variants.{Within, BehindRows, BehindNumber}
+use Rattle.sheets.specs.Reader.{Reader, Said, nothing, lists, ending, endedAs, ended}
+use Rattle.sheets.specs.Calls.{laid, isWord}
+use Rattle.sheets.specs.Words.{words, words-same}
+use Rattle.sheets.specs.Laying.{laid-splice, two-pieces, three-pieces}
+use Rattle.hubsheet.specs.declared.hubs.Hubs.{Hubs}
+use Rattle.hubsheet.specs.Held.{Holds, holds-row}
 
 unfoldable pub eights : List ℕ → List ℕ
 eights [] = []
@@ -29,12 +33,10 @@ refusalLine k = refusalText k ++ (10 ∷ [])
 unfoldable pub foundingLine : List ℕ → List ℕ
 foundingLine ids = (print2 240 ++ eights ids) ++ (10 ∷ [])
 
-unfoldable pub lineAs : Outcome → List ℕ → List ℕ
-lineAs (Refused k) ids = refusalLine k
-lineAs (Done rows bytes) ids = foundingLine (take rows ids)
-
-unfoldable pub lineOf : SheetRead → List ℕ
-lineOf r = lineAs (r .outcome) (r .identifiers)
+-- What is printed for what a text says. A ring has 64 hubs at most, so there are 64 places.
+unfoldable pub hubLine : Said → List ℕ
+hubLine nothing = refusalLine NO-SHEET
+hubLine (lists n i) = require (every isWord i) (refusalLine IDENTIFIER-TOO-LARGE) (require (leb (length i) 64) (refusalLine ROOM-SHORT) (foundingLine i))
 
 pub length-print2 : (v : ℕ) → length (print2 v) ≡ 2
 unfolding print2
@@ -56,34 +58,6 @@ pub length-eights : (l : List ℕ) → length (eights l) ≡ 8 * length l
 unfolding eights
 length-eights [] = refl
 length-eights (v ∷ l) = let e = length-append (print8 v) (eights l) in let f = length-print8 v in let g = length-eights l in omega arith
-
--- A sheet that is read has no more rows than there are places.
-abbrev Held : Outcome → List ℕ → Type 0
-Held (Refused k) ids = Unit {0}
-Held (Done rows bytes) ids = rows ≤ length ids
-
-abbrev HeldIn : SheetRead → Type 0
-HeldIn r = Held (r .outcome) (r .identifiers)
-
-held : (ids names : List ℕ) (s : Said) → HeldIn (readInto ids names s)
-unfolding readInto laid
-held ids names nothing = tt
-held ids names (lists n i) =
-    tested HeldIn (every isWord i) _ _ tt
-    (λ _. tested HeldIn (leb (length i) (length ids) && leb (length n) (length names)) _ _ tt
-    (λ t. omega (arith, length-append i (drop (length i) ids))))
-
-pub rows-held : (t ids names ids′ names′ : List ℕ) (rows bytes : ℕ) → readCall t ids names ≡ record { outcome = Done rows bytes; identifiers = ids′; names = names′ } → rows ≤ length ids′
-unfolding readCall
-rows-held t ids names ids′ names′ rows bytes e = subst HeldIn e (held ids names (reading t))
-
-pub refused-line : (t ids names ids′ names′ : List ℕ) (k : ℕ) → readCall t ids names ≡ record { outcome = Refused k; identifiers = ids′; names = names′ } → lineOf (readCall t ids names) ≡ refusalLine k
-unfolding lineOf lineAs
-refused-line t ids names ids′ names′ k e = ap lineOf e
-
-pub founding-line : (t ids names ids′ names′ : List ℕ) (rows bytes : ℕ) → readCall t ids names ≡ record { outcome = Done rows bytes; identifiers = ids′; names = names′ } → lineOf (readCall t ids names) ≡ foundingLine (take rows ids′)
-unfolding lineOf lineAs
-founding-line t ids names ids′ names′ rows bytes e = ap lineOf e
 
 -- eight digits more
 pub eights-put : (w u l : List ℕ) (i : ℕ) → i < length l → 2 + 8 * length l ≤ length w → u ≡ splice w 2 (eights (take i l)) → splice u (2 + 8 * i) (print8 (getD l i 0)) ≡ splice w 2 (eights (take (i + 1) l))
@@ -114,8 +88,55 @@ founding-put w t u v l i e h p q r =
     ∙ laid-splice w (print2 240 ++ (eights l ++ (10 ∷ [])))
     ∙ ap (laid w) (sym (append-assoc (print2 240) (eights l) (10 ∷ [])))
 
-pub founding-room : (rows n : ℕ) (ids : List ℕ) → rows ≤ length ids → length ids ≡ n → n ≤ 64 → (length (take rows ids) ≤ 64) × (length (foundingLine (take rows ids)) ≤ 516)
-founding-room rows n ids h e k =
-    let a = length-take-le rows ids h in
-    let b = founding-length (take rows ids) in
-    (omega arith, omega arith)
+pub founding-small : (l : List ℕ) → length l ≤ 64 → length (foundingLine l) ≤ 516
+founding-small l h = let b = founding-length l in omega arith
+
+-- The same of what is held at the end.
+unfoldable pub rowsLine : Bool → ℕ → List ℕ → List ℕ
+rowsLine fits rows ids = require fits (refusalLine IDENTIFIER-TOO-LARGE) (require (leb rows 64) (refusalLine ROOM-SHORT) (foundingLine (take rows ids)))
+
+rows-line : (n l ids : List ℕ) (rows : ℕ) (fits : Bool) → fits ≡ every isWord l → rows ≡ min (length l) 65 → length ids ≡ 64 → take (min (length l) 64) ids ≡ take 64 (words l)
+    → rowsLine fits rows ids ≡ hubLine (lists n l)
+unfolding rowsLine hubLine require if_then_else_
+rows-line n l ids rows fits f r k e = rw f (go (every isWord l) refl)
+  where
+    few : every isWord l ≡ true → (b : Bool) → leb (length l) 64 ≡ b → require (leb rows 64) (refusalLine ROOM-SHORT) (foundingLine (take rows ids)) ≡ require (leb (length l) 64) (refusalLine ROOM-SHORT) (foundingLine l)
+    few w true q =
+        let h : length l ≤ 64 = leb-true _ _ q in
+        let x : rows ≡ length l = omega arith in
+        let y : min (length l) 64 ≡ length l = omega arith in
+        let z : take rows ids ≡ l = ap (λ j. take j ids) (x ∙ sym y) ∙ e ∙ ap (take 64) (words-same l w) ∙ take-all 64 l h in
+        on-yes (leb rows 64) _ _ (ap (λ j. leb j 64) x ∙ q) ∙ ap foundingLine z ∙ sym (on-yes (leb (length l) 64) _ _ q)
+    few w false q =
+        let h : 64 < length l = leb-false _ _ q in
+        on-no (leb rows 64) _ _ (lt-leb rows 64 (omega arith)) ∙ sym (on-no (leb (length l) 64) _ _ q)
+
+    go : (b : Bool) → every isWord l ≡ b → require b (refusalLine IDENTIFIER-TOO-LARGE) (require (leb rows 64) (refusalLine ROOM-SHORT) (foundingLine (take rows ids))) ≡ require b (refusalLine IDENTIFIER-TOO-LARGE) (require (leb (length l) 64) (refusalLine ROOM-SHORT) (foundingLine l))
+    go true q = few q (leb (length l) 64) refl
+    go false q = refl
+
+-- What is printed is the line of whatever reader is held.
+abbrev pub Printed : Hubs → List ℕ → List ℕ → ℕ → List ℕ → Type 0
+Printed h ids out count out′ = (m : Reader) → Holds m h ids → (count ≡ length (hubLine (ended m))) × (out′ ≡ laid out (hubLine (ended m)))
+
+pub printed-as : (h : Hubs) (ids out out′ l : List ℕ) (count : ℕ) → count ≡ length l → out′ ≡ laid out l → ((m : Reader) → Holds m h ids → l ≡ hubLine (ended m)) → Printed h ids out count out′
+printed-as h ids out out′ l count e f g = λ m k. (e ∙ ap length (g m k), f ∙ ap (laid out) (g m k))
+
+module _ (h : Hubs) (ids : List ℕ) (e : Ending) (is : e ≡ ending (h .place)) (m : Reader) (k : Holds m h ids) where
+  ended-as : ended m ≡ endedAs e m
+  unfolding ended
+  ended-as = ap (λ x. endedAs x m) (ap ending (sym (k .place-is)) ∙ sym is)
+
+  pub line-within : e ≡ Within → refusalLine NO-SHEET ≡ hubLine (ended m)
+  unfolding endedAs hubLine
+  line-within q = sym (ap hubLine (ended-as ∙ ap (λ x. endedAs x m) q))
+
+  pub line-rows : e ≡ BehindRows → rowsLine (h .fits) (h .rows) ids ≡ hubLine (ended m)
+  unfolding endedAs
+  line-rows q = rows-line (m .names) (m .identifiers) ids (h .rows) (h .fits) (k .fits-is) (k .rows-are) (k .places) (k .ids-are) ∙ sym (ap hubLine (ended-as ∙ ap (λ x. endedAs x m) q))
+
+  pub line-number : e ≡ BehindNumber → rowsLine (h .fits && leb (h .value) 4294967295) (min (h .rows + 1) 65) (set ids (h .rows) (min (h .value) 4294967295)) ≡ hubLine (ended m)
+  unfolding endedAs
+  line-number q =
+      let z = holds-row m h ids k in
+      rows-line (m .names) (m .identifiers ++ (m .value ∷ [])) _ _ _ (z .0) (z .1) (z .2) (z .3) ∙ sym (ap hubLine (ended-as ∙ ap (λ x. endedAs x m) q))

@@ -1,13 +1,20 @@
 // The line that is printed for a sheet.
-use sheets::Outcome;
+use crate::hubs::Hubs;
+use crate::hubs::counted;
+use crate::hubs::keep;
+use crate::places::ending;
+use lists::both;
+use protocol::refusals;
+use sheets::Ending;
+use sheets::put_byte;
 ghost use mathlib.Core.Path.{_≡_};
 ghost use mathlib.Core.List.{[], _∷_};
 ghost use Prim.Native.Nat.{_+_, _*_, _≤_};
 ghost use lib.ListN.{length};
 ghost use Rattle.lists.specs.Splice.{splice};
 ghost use Rattle.protocol.specs.Frames.{digitOf, print2, print4, print8};
-ghost use Rattle.sheets.specs.Calls.{laid, readCall};
-ghost use Rattle.hubsheet.specs.Line.{refusalLine, foundingLine, lineOf};
+ghost use Rattle.sheets.specs.Calls.{laid};
+ghost use Rattle.hubsheet.specs.Line.{refusalLine, foundingLine, rowsLine, Printed};
 
 // The last digit of a number, upper case.
 fn digit_of(v: u32) -> u8
@@ -18,13 +25,6 @@ fn digit_of(v: u32) -> u8
         return (48 + d) as u8;
     }
     (55 + d) as u8
-}
-
-fn put_byte(out: &mut [u8], at: usize, b: u8)
-    requires { ⌜ at + 1 ≤ length (now out) ⌝ }
-    ensures { λ _. ⌜ now (out .exit) ≡ splice (now (out .entry)) at (b ∷ []) ⌝ }
-{
-    out[at] = b;
 }
 
 fn put2(out: &mut [u8], at: usize, v: u32)
@@ -78,13 +78,37 @@ fn put_founding(out: &mut [u8], identifiers: &[u32]) -> usize
     end + 1
 }
 
-// What the sheet says, as the line for `ringrun`, and how many bytes it has.
-pub fn answer(text: &[u8], identifiers: &mut [u32], names: &mut [u8], out: &mut [u8]) -> usize
-    requires { ⌜ (length (now identifiers) ≤ 64) × (516 ≤ length (now out)) ⌝ }
-    ensures { λ r. ⌜ (r ≤ 516) × (r ≡ length (lineOf (readCall (now (text .entry)) (now (identifiers .entry)) (now (names .entry))))) × (now (out .exit) ≡ laid (now (out .entry)) (lineOf (readCall (now (text .entry)) (now (identifiers .entry)) (now (names .entry))))) ⌝ }
+// The line for a sheet of these rows, whose identifiers fit or not: 20 before 21.
+fn put_rows(out: &mut [u8], fits: bool, rows: usize, identifiers: &[u32]) -> usize
+    requires { ⌜ (length (now identifiers) ≡ 64) × (516 ≤ length (now out)) ⌝ }
+    ensures { λ r. ⌜ (r ≤ 516) × (r ≡ length (rowsLine fits rows (now (identifiers .entry)))) × (now (out .exit) ≡ laid (now (out .entry)) (rowsLine fits rows (now (identifiers .entry)))) ⌝ }
 {
-    match sheets::read_sheet(text, identifiers, names) {
-        Outcome::Refused(k) => put_refusal(out, k),
-        Outcome::Done { rows, bytes } => put_founding(out, &identifiers[..rows]),
+    if !fits {
+        return put_refusal(out, refusals::IDENTIFIER_TOO_LARGE);
+    }
+    if 64 < rows {
+        return put_refusal(out, refusals::ROOM_SHORT);
+    }
+    put_founding(out, &identifiers[..rows])
+}
+
+// The line for what is held at the end of the text, and how many bytes it has. Behind a number there is one row more.
+pub fn put_line(h: Hubs, identifiers: &mut [u32], out: &mut [u8]) -> usize
+    requires { ⌜ (length (now identifiers) ≡ 64) × (516 ≤ length (now out)) ⌝ }
+    ensures { λ r. ⌜ (r ≤ 516) × Printed h (now (identifiers .entry)) (now (out .entry)) r (now (out .exit)) ⌝ }
+{
+    let p = h.place;
+    match ending(p) {
+        Ending::Within => put_refusal(out, refusals::NO_SHEET),
+        Ending::BehindRows => put_rows(out, h.fits, h.rows, identifiers),
+        Ending::BehindNumber => {
+            keep(identifiers, h.rows, h.value);
+            put_rows(
+                out,
+                both(h.fits, h.value <= 4294967295),
+                counted(h.rows),
+                identifiers,
+            )
+        }
     }
 }

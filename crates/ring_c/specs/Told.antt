@@ -1,24 +1,30 @@
--- The two calls for C: 17 where there is no room for the counts, asked first; then the call's own number, or 0 and the counts.
+-- The office sheet's two calls for C (document 02, 2026-03): 17 where there is no room for the counts, asked first; then the call's own
+-- number, or 0 and the counts.
 use mathlib.Core.Path.{_≡_, ap, _∙_}
-use mathlib.Core.List.{List}
-use Prim.Native.Nat.{ℕ, _≤_, _<_}
+use mathlib.Core.List.{List, [], _∷_}
+use Prim.Native.Nat.{ℕ, _/_, _%_, _≤_, _<_}
 use borrow.Author.Tests.{le-leb, lt-leb}
 use lib.Dec.{leb}
 use lib.ListN.{length}
 use Rattle.lists.specs.Basics.{require}
 use Rattle.lists.specs.Choice.{on-yes, on-no}
+use Rattle.protocol.specs.Names.{OUTPUT-SHORT}
+use Rattle.protocol.specs.Bytes.{over}
 use Rattle.sheets.specs.declared.Outcome.{Outcome}
 use Rattle.sheets.specs.declared.Outcome.the-variants.{Refused, Done}
-use Rattle.sheets.specs.Calls.{SheetRead, SheetWritten, laid, writeCall}
-use Rattle.sheets.specs.Carried.{wordsOf, countBytes, readBytesCall}
+use Rattle.sheets.specs.Calls.{SheetRead, SheetWritten, readBytesCall, writeBytesCall}
 
 unfoldable pub codeOf : Outcome → ℕ
 codeOf (Refused k) = k
 codeOf (Done rows bytes) = 0
 
+-- A count has eight bytes, lowest first: two words.
+unfoldable pub countWords : ℕ → ℕ → List ℕ
+countWords rows bytes = rows % 4294967296 ∷ rows / 4294967296 ∷ bytes % 4294967296 ∷ bytes / 4294967296 ∷ []
+
 unfoldable pub countsAfter : List ℕ → Outcome → List ℕ
 countsAfter counts (Refused k) = counts
-countsAfter counts (Done rows bytes) = laid counts (countBytes rows bytes)
+countsAfter counts (Done rows bytes) = over counts (countWords rows bytes)
 
 pub record ReadTold : Type 0 where
   pub code : ℕ
@@ -31,7 +37,7 @@ toldRead counts r = record { code = codeOf (r .outcome); identifiers = r .identi
 
 unfoldable pub sheetRead : List ℕ → List ℕ → List ℕ → List ℕ → ReadTold
 sheetRead text ids names counts =
-    require (leb 16 (length counts)) (record { code = 17; identifiers = ids; names = names; counts = counts }) (toldRead counts (readBytesCall text ids names))
+    require (leb 16 (length counts)) (record { code = OUTPUT-SHORT; identifiers = ids; names = names; counts = counts }) (toldRead counts (readBytesCall text ids names))
 
 pub record WriteTold : Type 0 where
   pub code : ℕ
@@ -43,10 +49,10 @@ toldWrite counts r = record { code = codeOf (r .outcome); text = r .text; counts
 
 unfoldable pub sheetWrite : List ℕ → List ℕ → List ℕ → List ℕ → WriteTold
 sheetWrite names ids text counts =
-    require (leb 16 (length counts)) (record { code = 17; text = text; counts = counts }) (toldWrite counts (writeCall names (wordsOf ids) text))
+    require (leb 16 (length counts)) (record { code = OUTPUT-SHORT; text = text; counts = counts }) (toldWrite counts (writeBytesCall names ids text))
 
 module _ (text ids names counts : List ℕ) where
-  pub read-17 : length counts < 16 → sheetRead text ids names counts ≡ record { code = 17; identifiers = ids; names = names; counts = counts }
+  pub read-17 : length counts < 16 → sheetRead text ids names counts ≡ record { code = OUTPUT-SHORT; identifiers = ids; names = names; counts = counts }
   unfolding sheetRead
   read-17 h = on-no (leb 16 (length counts)) _ _ (lt-leb 16 (length counts) h)
 
@@ -54,10 +60,10 @@ module _ (text ids names counts : List ℕ) where
   unfolding sheetRead
   read-told r h e = on-yes (leb 16 (length counts)) _ _ (le-leb 16 (length counts) h) ∙ ap (toldRead counts) e
 
-  pub write-17 : length counts < 16 → sheetWrite names ids text counts ≡ record { code = 17; text = text; counts = counts }
+  pub write-17 : length counts < 16 → sheetWrite names ids text counts ≡ record { code = OUTPUT-SHORT; text = text; counts = counts }
   unfolding sheetWrite
   write-17 h = on-no (leb 16 (length counts)) _ _ (lt-leb 16 (length counts) h)
 
-  pub write-told : (r : SheetWritten) → 16 ≤ length counts → writeCall names (wordsOf ids) text ≡ r → sheetWrite names ids text counts ≡ toldWrite counts r
+  pub write-told : (r : SheetWritten) → 16 ≤ length counts → writeBytesCall names ids text ≡ r → sheetWrite names ids text counts ≡ toldWrite counts r
   unfolding sheetWrite
   write-told r h e = on-yes (leb 16 (length counts)) _ _ (le-leb 16 (length counts) h) ∙ ap (toldWrite counts) e

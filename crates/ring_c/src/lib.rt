@@ -8,13 +8,12 @@ use crate::bytes::loaded;
 use crate::foundings::found;
 use crate::results::finish;
 use crate::results::finish_owner;
+use crate::results::finish_sheet;
 use protocol::Founder;
 use protocol::form::RECORD_BYTES;
 use protocol::refusals;
-use sheets::Outcome;
-use sheets::put_counts;
-use sheets::read_sheet_bytes;
-use sheets::write_sheet_bytes;
+use sheet_reading::read_sheet_bytes;
+use sheet_writing::write_sheet_bytes;
 ghost use mathlib.Core.Path.{_≡_};
 ghost use Rattle.protocol.specs.Bytes.{stepBytes, ownerBytes, freshBytes, freshByBytes};
 ghost use Rattle.ring_c.specs.Told.{sheetRead, sheetWrite};
@@ -67,7 +66,7 @@ pub extern "C" fn ring_fresh_by(words: &mut [u8], identifiers: &[u8], founder: u
     found(words, identifiers, Founder::Named(founder))
 }
 
-// The sheet in the lent text, into identifiers and names; counts: rows, and bytes of names.
+// The hubs of an office sheet, into the lent identifiers and names.
 #[no_mangle]
 pub extern "C" fn ring_sheet_read(
     text: &[u8],
@@ -78,18 +77,13 @@ pub extern "C" fn ring_sheet_read(
     ensures { λ r. ⌜ sheetRead (now (text .entry)) (now (identifiers .entry)) (now (names .entry)) (now (counts .entry)) ≡ record { code = r; identifiers = now (identifiers .exit); names = now (names .exit); counts = now (counts .exit) } ⌝ }
 {
     if counts.len() < 16 {
-        return 17;
+        return refusals::OUTPUT_SHORT;
     }
-    match read_sheet_bytes(text, identifiers, names) {
-        Outcome::Refused(k) => k,
-        Outcome::Done { rows, bytes } => {
-            put_counts(counts, rows, bytes);
-            0
-        }
-    }
+    let r = read_sheet_bytes(text, identifiers, names);
+    finish_sheet(counts, r)
 }
 
-// Names and identifiers as a sheet, into the lent text; counts: rows, and bytes of text.
+// The office sheet of names and identifiers, into the lent text.
 #[no_mangle]
 pub extern "C" fn ring_sheet_write(
     names: &[u8],
@@ -100,13 +94,8 @@ pub extern "C" fn ring_sheet_write(
     ensures { λ r. ⌜ sheetWrite (now (names .entry)) (now (identifiers .entry)) (now (text .entry)) (now (counts .entry)) ≡ record { code = r; text = now (text .exit); counts = now (counts .exit) } ⌝ }
 {
     if counts.len() < 16 {
-        return 17;
+        return refusals::OUTPUT_SHORT;
     }
-    match write_sheet_bytes(names, identifiers, text) {
-        Outcome::Refused(k) => k,
-        Outcome::Done { rows, bytes } => {
-            put_counts(counts, rows, bytes);
-            0
-        }
-    }
+    let r = write_sheet_bytes(names, identifiers, text);
+    finish_sheet(counts, r)
 }

@@ -1,11 +1,13 @@
--- Request 2026-03: what the two calls give, for every text and every lent buffer, and what they leave there.
--- 'A text that is not such a sheet .. is 19', 'An identifier above 4294967295 is 20, and any output too short is 21, in that order.'
+-- What the two calls give (document 02, 2026-03), for every text and every lent buffer, and what they leave there. The questions are asked in
+-- the order of their numbers, each of all that is given; a call that is refused leaves what it was lent.
 use mathlib.Core.Bool.{Bool, _&&_}
 use mathlib.Core.List.{List, _++_}
 use Prim.Native.Nat.{ℕ}
 use lib.Dec.{leb}
 use lib.ListN.{length, drop}
 use Rattle.lists.specs.Basics.{require, every}
+use Rattle.protocol.specs.Names.{NO-SHEET, IDENTIFIER-TOO-LARGE, ROOM-SHORT}
+use Rattle.protocol.specs.Bytes.{wordsOf, bytesOf}
 use Rattle.sheets.specs.declared.Outcome.{Outcome}
 use Rattle.sheets.specs.declared.Outcome.the-variants.{Refused, Done}
 use Rattle.sheets.specs.Reader.{Said, nothing, lists, reading}
@@ -20,8 +22,8 @@ isWord v = leb v 4294967295
 
 -- What a text is worth before the outputs are looked at.
 unfoldable pub judged : Said → Outcome
-judged nothing = Refused 19
-judged (lists n i) = require (every isWord i) (Refused 20) (Done (length i) (length n))
+judged nothing = Refused NO-SHEET
+judged (lists n i) = require (every isWord i) (Refused IDENTIFIER-TOO-LARGE) (Done (length i) (length n))
 
 -- What reading a sheet leaves: its outcome, and the lent identifiers and names.
 pub record SheetRead : Type 0 where
@@ -32,15 +34,23 @@ pub record SheetRead : Type 0 where
 abbrev pub unread : List ℕ → List ℕ → ℕ → SheetRead
 unread ids names k = record { outcome = Refused k; identifiers = ids; names = names }
 
-unfoldable pub readInto : List ℕ → List ℕ → Said → SheetRead
-readInto ids names nothing = unread ids names 19
-readInto ids names (lists n i) =
-    require (every isWord i) (unread ids names 20)
-    (require (leb (length i) (length ids) && leb (length n) (length names)) (unread ids names 21)
-    (record { outcome = Done (length i) (length n); identifiers = laid ids i; names = laid names n }))
+-- The identifiers lie there as words, or as bytes.
+unfoldable pub readInto : (List ℕ → List ℕ) → List ℕ → List ℕ → Said → SheetRead
+readInto form ids names nothing = unread ids names NO-SHEET
+readInto form ids names (lists n i) =
+    require (every isWord i) (unread ids names IDENTIFIER-TOO-LARGE)
+    (require (leb (length (form i)) (length ids) && leb (length n) (length names)) (unread ids names ROOM-SHORT)
+    (record { outcome = Done (length i) (length n); identifiers = laid ids (form i); names = laid names n }))
+
+abbrev pub asWords : List ℕ → List ℕ
+asWords i = i
 
 unfoldable pub readCall : List ℕ → List ℕ → List ℕ → SheetRead
-readCall text ids names = readInto ids names (reading text)
+readCall text ids names = readInto asWords ids names (reading text)
+
+-- As C lends them, an identifier has four bytes.
+unfoldable pub readBytesCall : List ℕ → List ℕ → List ℕ → SheetRead
+readBytesCall text ids names = readInto (λ i. bytesOf i) ids names (reading text)
 
 -- What writing a sheet leaves: its outcome, and the lent text.
 pub record SheetWritten : Type 0 where
@@ -52,6 +62,9 @@ sheetText names ids = writeSheet (rowsIn names ids)
 
 unfoldable pub writeCall : List ℕ → List ℕ → List ℕ → SheetWritten
 writeCall names ids text =
-    require (namesFor names (length ids)) (record { outcome = Refused 19; text = text })
-    (require (leb (length (sheetText names ids)) (length text)) (record { outcome = Refused 21; text = text })
+    require (namesFor names (length ids)) (record { outcome = Refused NO-SHEET; text = text })
+    (require (leb (length (sheetText names ids)) (length text)) (record { outcome = Refused ROOM-SHORT; text = text })
     (record { outcome = Done (length ids) (length (sheetText names ids)); text = laid text (sheetText names ids) }))
+
+unfoldable pub writeBytesCall : List ℕ → List ℕ → List ℕ → SheetWritten
+writeBytesCall names ids text = writeCall names (wordsOf ids) text

@@ -9,10 +9,10 @@ use lib.Dec.{eqb, eqb→eq}
 use lib.ListN.{length}
 use Rattle.lists.specs.Basics.{if_then_else_, every}
 use Rattle.lists.specs.Tests.{true-T}
-use Rattle.sheets.specs.declared.Place.{Place}
-use Rattle.sheets.specs.declared.Place.the-variants.{Start, Plain, Opened, Quoted, Closed, Number, Digits, NumberOpened, NumberQuoted, NumberClosed, Return}
 use Rattle.sheets.specs.Grammar.{Row, quote, comma, cr, lf, bare, nonZero, isDigit, doubled, worth, Field, plain, quoted, RowText, row, Sheet, empty, last, more}
 use Rattle.sheets.specs.Reader
+use Rattle.sheets.specs.declared.Place.{Place}
+use Rattle.sheets.specs.declared.Place.the-variants.{Start, Plain, Opened, Quoted, Closed, Number, Digits, NumberOpened, NumberQuoted, NumberClosed, Return}
 use Rattle.sheets.specs.Reader.{Reader, next, effect, said, told, valued, moved, fed, run, fresh, lists, ending, endedAs, ended, reading}
 use Rattle.sheets.specs.Rows.{namesOf, identifiersOf}
 use Rattle.sheets.specs.Bytes.{every-head, every-tail, not-zero, bare-quote, bare-comma, digit-quote}
@@ -27,51 +27,51 @@ run-append m (b ∷ s) t = run-append (fed m b) s t
 
 -- one byte: where it leads to, and what it says there
 module _ (p : Place) (n i t : List ℕ) (v b : ℕ) where
-  to-place : (q : Place) → next p b ≡ q → run (standing p n i v) (b ∷ t) ≡ run (moved (standing p n i v) q b) t
+  pub to-place : (q : Place) → next p b ≡ q → run (standing p n i v) (b ∷ t) ≡ run (moved (standing p n i v) q b) t
   unfolding run fed
   to-place q e = ap (λ z. run (moved (standing p n i v) z b) t) e
 
-  to-opened : next p b ≡ Opened → run (standing p n i v) (b ∷ t) ≡ run (standing Opened n i v) t
+  pub to-opened : next p b ≡ Opened → run (standing p n i v) (b ∷ t) ≡ run (standing Opened n i v) t
   unfolding moved effect said told valued
   to-opened e = to-place Opened e ∙ simp append-nil
 
-  to-closed : next p b ≡ Closed → run (standing p n i v) (b ∷ t) ≡ run (standing Closed n i v) t
+  pub to-closed : next p b ≡ Closed → run (standing p n i v) (b ∷ t) ≡ run (standing Closed n i v) t
   unfolding moved effect said told valued
   to-closed e = to-place Closed e ∙ simp append-nil
 
-  to-numberopened : next p b ≡ NumberOpened → run (standing p n i v) (b ∷ t) ≡ run (standing NumberOpened n i v) t
+  pub to-numberopened : next p b ≡ NumberOpened → run (standing p n i v) (b ∷ t) ≡ run (standing NumberOpened n i v) t
   unfolding moved effect said told valued
   to-numberopened e = to-place NumberOpened e ∙ simp append-nil
 
-  to-numberclosed : next p b ≡ NumberClosed → run (standing p n i v) (b ∷ t) ≡ run (standing NumberClosed n i v) t
+  pub to-numberclosed : next p b ≡ NumberClosed → run (standing p n i v) (b ∷ t) ≡ run (standing NumberClosed n i v) t
   unfolding moved effect said told valued
   to-numberclosed e = to-place NumberClosed e ∙ simp append-nil
 
-  to-start : next p b ≡ Start → run (standing p n i v) (b ∷ t) ≡ run (standing Start n i v) t
+  pub to-start : next p b ≡ Start → run (standing p n i v) (b ∷ t) ≡ run (standing Start n i v) t
   unfolding moved effect said told valued
   to-start e = to-place Start e ∙ simp append-nil
 
-  to-plain : next p b ≡ Plain → run (standing p n i v) (b ∷ t) ≡ run (standing Plain (n ++ (b ∷ [])) i v) t
+  pub to-plain : next p b ≡ Plain → run (standing p n i v) (b ∷ t) ≡ run (standing Plain (n ++ (b ∷ [])) i v) t
   unfolding moved effect said told valued
   to-plain e = to-place Plain e ∙ simp append-nil
 
-  to-quoted : next p b ≡ Quoted → run (standing p n i v) (b ∷ t) ≡ run (standing Quoted (n ++ (b ∷ [])) i v) t
+  pub to-quoted : next p b ≡ Quoted → run (standing p n i v) (b ∷ t) ≡ run (standing Quoted (n ++ (b ∷ [])) i v) t
   unfolding moved effect said told valued
   to-quoted e = to-place Quoted e ∙ simp append-nil
 
-  to-number : next p b ≡ Number → run (standing p n i v) (b ∷ t) ≡ run (standing Number (n ++ (0 ∷ [])) i 0) t
+  pub to-number : next p b ≡ Number → run (standing p n i v) (b ∷ t) ≡ run (standing Number (n ++ (0 ∷ [])) i 0) t
   unfolding moved effect said told valued
   to-number e = to-place Number e ∙ simp append-nil
 
-  to-digits : next p b ≡ Digits → run (standing p n i v) (b ∷ t) ≡ run (standing Digits n i (10 * v + (b - 48))) t
+  pub to-digits : next p b ≡ Digits → run (standing p n i v) (b ∷ t) ≡ run (standing Digits n i (10 * v + (b - 48))) t
   unfolding moved effect said told valued
   to-digits e = to-place Digits e ∙ simp append-nil
 
-  to-numberquoted : next p b ≡ NumberQuoted → run (standing p n i v) (b ∷ t) ≡ run (standing NumberQuoted n i (10 * v + (b - 48))) t
+  pub to-numberquoted : next p b ≡ NumberQuoted → run (standing p n i v) (b ∷ t) ≡ run (standing NumberQuoted n i (10 * v + (b - 48))) t
   unfolding moved effect said told valued
   to-numberquoted e = to-place NumberQuoted e ∙ simp append-nil
 
-  to-return : next p b ≡ Return → run (standing p n i v) (b ∷ t) ≡ run (standing Return n (i ++ (v ∷ [])) v) t
+  pub to-return : next p b ≡ Return → run (standing p n i v) (b ∷ t) ≡ run (standing Return n (i ++ (v ∷ [])) v) t
   unfolding moved effect said told valued
   to-return e = to-place Return e ∙ simp append-nil
 
@@ -92,7 +92,7 @@ pub quoted-next : (b : ℕ) → eqb b quote ≡ false → nonZero b ≡ true →
 unfolding next Reader.quoted if_then_else_
 quoted-next b e z = rw (e, not-zero b z)
 
-number-next : (b : ℕ) → isDigit b ≡ true → next Number b ≡ Digits
+pub number-next : (b : ℕ) → isDigit b ≡ true → next Number b ≡ Digits
 unfolding next Reader.number if_then_else_
 number-next b e = rw (digit-quote b e, e)
 
@@ -100,7 +100,7 @@ pub digits-next : (b : ℕ) → isDigit b ≡ true → next Digits b ≡ Digits
 unfolding next Reader.digits if_then_else_
 digits-next b e = rw e
 
-opened-next : (b : ℕ) → isDigit b ≡ true → next NumberOpened b ≡ NumberQuoted
+pub opened-next : (b : ℕ) → isDigit b ≡ true → next NumberOpened b ≡ NumberQuoted
 unfolding next if_then_else_
 opened-next b e = rw e
 
@@ -109,11 +109,11 @@ unfolding next Reader.numberQuoted if_then_else_
 number-quoted-next b e = rw (digit-quote b e, e)
 
 -- the bytes that a sheet tells apart
-marks : (next Start quote ≡ Opened) × (next Start comma ≡ Number) × (next Plain comma ≡ Number) × (next Quoted quote ≡ Closed) × (next Closed quote ≡ Quoted) × (next Closed comma ≡ Number)
+pub marks : (next Start quote ≡ Opened) × (next Start comma ≡ Number) × (next Plain comma ≡ Number) × (next Quoted quote ≡ Closed) × (next Closed quote ≡ Quoted) × (next Closed comma ≡ Number)
 unfolding next Reader.unquoted Reader.quoted Reader.closed if_then_else_
 marks = (refl, refl, refl, refl, refl, refl)
 
-number-marks : (next Number quote ≡ NumberOpened) × (next NumberQuoted quote ≡ NumberClosed) × (next Digits cr ≡ Return) × (next NumberClosed cr ≡ Return) × (next Return lf ≡ Start)
+pub number-marks : (next Number quote ≡ NumberOpened) × (next NumberQuoted quote ≡ NumberClosed) × (next Digits cr ≡ Return) × (next NumberClosed cr ≡ Return) × (next Return lf ≡ Start)
 unfolding next Reader.number Reader.numberQuoted Reader.digits Reader.rowEnd isDigit if_then_else_
 number-marks = (refl, refl, refl, refl, refl)
 
@@ -152,7 +152,7 @@ quoted-run (b ∷ s) n i t v z = go (eqb b quote) refl (quoted-run s (n ++ (b �
         ∙ ap (λ l. run (standing Number l i 0) t) (append-assoc n (b ∷ []) (s ++ (0 ∷ [])))
 
 -- behind the first quote the reader goes on as behind any byte of the name
-opened-run : (n i t : List ℕ) (v b : ℕ) → run (standing Opened n i v) (b ∷ t) ≡ run (standing Quoted n i v) (b ∷ t)
+pub opened-run : (n i t : List ℕ) (v b : ℕ) → run (standing Opened n i v) (b ∷ t) ≡ run (standing Quoted n i v) (b ∷ t)
 unfolding run fed moved next
 opened-run n i t v b = refl
 

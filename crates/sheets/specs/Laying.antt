@@ -1,5 +1,5 @@
 -- Lists written to the front of a buffer, piece by piece. Assumes nothing.
-use mathlib.Core.Path.{_≡_, refl, ap, sym, _∙_}
+use mathlib.Core.Path.{_≡_, refl, ap, ap₂, sym, _∙_}
 use mathlib.Core.List.{List, [], _∷_, _++_, append-assoc, append-nil}
 use Prim.Native.Nat.{ℕ, _+_, _≤_, _<_}
 use native.Mathlib.Nat.{add-zero}
@@ -52,3 +52,43 @@ length-laid w l h = simp (length-append, length-drop) (omega arith)
 pub laid-splice : (w l : List ℕ) → splice w 0 l ≡ laid w l
 unfolding splice laid
 laid-splice w l = ap (λ n. l ++ drop n w) (let e : 0 + length l ≡ length l = omega arith in e)
+
+-- three pieces, and four
+pub splice-three : (w a b c : List ℕ) (at : ℕ) → at + length (a ++ (b ++ c)) ≤ length w
+    → splice (splice (splice w at a) (at + length a) b) (at + length a + length b) c ≡ splice w at (a ++ (b ++ c))
+splice-three w a b c at h =
+    let x = length-append a (b ++ c) in
+    let y = length-append b c in
+    let z = length-append a b in
+    let e : at + length a + length b ≡ at + length (a ++ b) = omega arith in
+    ap₂ (λ l n. splice l n c) (splice-twice w a b at (omega arith)) e ∙ splice-twice w (a ++ b) c at (omega arith) ∙ ap (splice w at) (append-assoc a b c)
+
+pub splice-four : (w a b c d : List ℕ) (at : ℕ) → at + length (a ++ (b ++ (c ++ d))) ≤ length w
+    → splice (splice (splice (splice w at a) (at + length a) b) (at + length a + length b) c) (at + length a + length b + length c) d ≡ splice w at (a ++ (b ++ (c ++ d)))
+splice-four w a b c d at h =
+    let x = length-append a (b ++ (c ++ d)) in
+    let y = length-append b (c ++ d) in
+    let z = length-append c d in
+    let u = length-append a (b ++ c) in
+    let v = length-append b c in
+    let e : at + length a + length b + length c ≡ at + length (a ++ (b ++ c)) = omega arith in
+    ap₂ (λ l n. splice l n d) (splice-three w a b c at (omega arith)) e ∙ splice-twice w (a ++ (b ++ c)) d at (omega arith) ∙ ap (splice w at) (append-assoc a (b ++ c) d ∙ ap (λ l. a ++ l) (append-assoc b c d))
+
+-- the same, where each piece is written behind the one before it
+module _ (w : List ℕ) (at : ℕ) where
+  pub two-pieces : (a b : List ℕ) (t u : List ℕ) (p : ℕ) → t ≡ splice w at a → p ≡ at + length a → u ≡ splice t p b → at + length (a ++ b) ≤ length w → u ≡ splice w at (a ++ b)
+  two-pieces a b t u p e f g h =
+      let x = length-append a b in
+      g ∙ ap₂ (λ l n. splice l n b) e f ∙ splice-twice w a b at (omega arith)
+
+  pub three-pieces : (a b c : List ℕ) (t u v : List ℕ) (p q : ℕ) → t ≡ splice w at a → p ≡ at + length a → u ≡ splice t p b → q ≡ p + length b → v ≡ splice u q c
+      → at + length (a ++ (b ++ c)) ≤ length w → v ≡ splice w at (a ++ (b ++ c))
+  three-pieces a b c t u v p q e f g k l h =
+      l ∙ ap₂ (λ y n. splice y n c) (g ∙ ap₂ (λ y n. splice y n b) e f) (k ∙ ap (λ n. n + length b) f) ∙ splice-three w a b c at h
+
+  pub four-pieces : (a b c d : List ℕ) (t u v y : List ℕ) (p q r : ℕ) → t ≡ splice w at a → p ≡ at + length a → u ≡ splice t p b → q ≡ p + length b → v ≡ splice u q c → r ≡ q + length c → y ≡ splice v r d
+      → at + length (a ++ (b ++ (c ++ d))) ≤ length w → y ≡ splice w at (a ++ (b ++ (c ++ d)))
+  four-pieces a b c d t u v y p q r e f g k l m o h =
+      o
+      ∙ ap₂ (λ y n. splice y n d) (l ∙ ap₂ (λ y n. splice y n c) (g ∙ ap₂ (λ y n. splice y n b) e f) (k ∙ ap (λ n. n + length b) f)) (m ∙ ap (λ n. n + length c) (k ∙ ap (λ n. n + length b) f))
+      ∙ splice-four w a b c d at h

@@ -6,7 +6,7 @@ use Rattle.lists.specs.Basics.{if_then_else_}
 use Rattle.sheets.specs.declared.Place.{Place}
 use Rattle.sheets.specs.declared.Place.the-variants.{Start, Plain, Opened, Quoted, Closed, Number, Digits, NumberOpened, NumberQuoted, NumberClosed, Return, Wrong}
 use Rattle.sheets.specs.declared.Effect.{Effect}
-use Rattle.sheets.specs.declared.Effect.the-variants.{Quiet, Byte, Name, Digit, Row}
+use Rattle.sheets.specs.declared.Effect.the-variants.{Quiet, Letter, EndName, Figure, EndRow}
 use Rattle.sheets.specs.declared.Ending.{Ending}
 use Rattle.sheets.specs.declared.Ending.the-variants.{Within, BehindRows, BehindNumber}
 use Rattle.sheets.specs.Grammar.{quote, comma, cr, lf, bare, isDigit}
@@ -49,45 +49,43 @@ next NumberClosed b = rowEnd b
 next Return b = if eqb b lf then Start else Wrong
 next Wrong b = Wrong
 
--- What a byte does at the place that it leads to: it is a byte of the name; it ends the name; it is a digit; it ends the row; or
--- none of these.
 unfoldable pub effect : Place → Effect
 effect Start = Quiet
-effect Plain = Byte
+effect Plain = Letter
 effect Opened = Quiet
-effect Quoted = Byte
+effect Quoted = Letter
 effect Closed = Quiet
-effect Number = Name
-effect Digits = Digit
+effect Number = EndName
+effect Digits = Figure
 effect NumberOpened = Quiet
-effect NumberQuoted = Digit
+effect NumberQuoted = Figure
 effect NumberClosed = Quiet
-effect Return = Row
+effect Return = EndRow
 effect Wrong = Quiet
 
 -- What it adds to the names: 'each followed by a zero byte'.
 unfoldable pub said : Effect → ℕ → List ℕ
 said Quiet b = []
-said Byte b = b ∷ []
-said Name b = 0 ∷ []
-said Digit b = []
-said Row b = []
+said Letter b = b ∷ []
+said EndName b = 0 ∷ []
+said Figure b = []
+said EndRow b = []
 
 -- The number that is being read, where it was v.
 unfoldable pub valued : Effect → ℕ → ℕ → ℕ
 valued Quiet b v = v
-valued Byte b v = v
-valued Name b v = 0
-valued Digit b v = 10 * v + (b - 48)
-valued Row b v = v
+valued Letter b v = v
+valued EndName b v = 0
+valued Figure b v = 10 * v + (b - 48)
+valued EndRow b v = v
 
 -- What it adds to the identifiers.
 unfoldable pub told : Effect → ℕ → List ℕ
 told Quiet v = []
-told Byte v = []
-told Name v = []
-told Digit v = []
-told Row v = v ∷ []
+told Letter v = []
+told EndName v = []
+told Figure v = []
+told EndRow v = v ∷ []
 
 -- A reader: its place, the names so far, each followed by a zero byte, the identifiers so far, and the number that is being read.
 pub record Reader : Type 0 where

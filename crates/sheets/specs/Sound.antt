@@ -10,10 +10,10 @@ use lib.ListN.{length}
 use Rattle.lists.specs.Basics.{if_then_else_, every}
 use Rattle.lists.specs.Choice.{choose}
 use Rattle.lists.specs.Tests.{T-true}
-use Rattle.sheets.specs.declared.Place.{Place}
-use Rattle.sheets.specs.declared.Place.the-variants.{Start, Plain, Opened, Quoted, Closed, Number, Digits, NumberOpened, NumberQuoted, NumberClosed, Return, Wrong}
 use Rattle.sheets.specs.Grammar.{Row, quote, comma, cr, lf, bare, nonZero, isDigit, doubled, worth, Field, plain, quoted, RowText, row, Sheet, empty, last, more}
 use Rattle.sheets.specs.Reader
+use Rattle.sheets.specs.declared.Place.{Place}
+use Rattle.sheets.specs.declared.Place.the-variants.{Start, Plain, Opened, Quoted, Closed, Number, Digits, NumberOpened, NumberQuoted, NumberClosed, Return, Wrong}
 use Rattle.sheets.specs.Reader.{Reader, next, effect, said, told, valued, moved, fed, run, fresh, nothing, lists, ending, endedAs, ended, reading}
 use Rattle.sheets.specs.Rows.{namesOf, identifiersOf}
 use Rattle.sheets.specs.Bytes.{T-false, every-more, every-none, digits-bare, digits-single}
@@ -305,7 +305,7 @@ record Read (m : Reader) (t n i : List ℕ) : Type 0 where
 pub silent : (n i : List ℕ) → nothing ≡ lists n i → ⊥
 silent n i e = let z : _≡_ {A = ℕ} 0 1 = cc in omega arith
 
-same-lists : (n i n′ i′ : List ℕ) → lists n i ≡ lists n′ i′ → (n′ ≡ n) × (i′ ≡ i)
+pub same-lists : (n i n′ i′ : List ℕ) → lists n i ≡ lists n′ i′ → (n′ ≡ n) × (i′ ≡ i)
 same-lists n i n′ i′ e = (cc, cc)
 
 end-here : Tail [] [] []

@@ -22,7 +22,7 @@ use Rattle.sheets.specs.Writer.{nameText, decimal, rowText, writeSheet, 
 use Rattle.sheets.specs.Decimal.{decimal-digits}
 use Rattle.sheets.specs.Buffers.{Named, names-back, ids-in, rows-named, names-fit, rows-back}
 use Rattle.sheets.specs.declared.Outcome.the-variants.{Done}
-use Rattle.sheets.specs.Calls.{isWord, laid, readInto, readCall, sheetText, writeCall}
+use Rattle.sheets.specs.Calls.{isWord, laid, asWords, readInto, readCall, sheetText, writeCall}
 
 -- A row that can be written: its name holds no zero byte, and its identifier is a word.
 abbrev pub Writable : Row → Type 0
@@ -97,7 +97,7 @@ pub written-then-read : (names ids ids′ names′ : List ℕ) → namesFor name
     → readCall (sheetText names ids) ids′ names′ ≡ record { outcome = Done (length ids) (length names); identifiers = laid ids′ ids; names = laid names′ names }
 unfolding readCall readInto
 written-then-read names ids ids′ names′ f e h k =
-    ap (readInto ids′ names′) (read-back names ids f e)
+    ap (readInto asWords ids′ names′) (read-back names ids f e)
     ∙ on-yes (every isWord ids) _ _ e
     ∙ on-yes (leb (length ids) (length ids′) && leb (length names) (length names′)) _ _ (rw (le-leb (length ids) (length ids′) h, le-leb (length names) (length names′) k))
 

@@ -1,25 +1,22 @@
-// The office sheet (request 2026-03): hub names and identifiers as RFC 4180's comma-separated values, read and written.
-mod bytes;
-mod carried;
-mod counting;
-mod decimals;
-mod filling;
-mod numbers;
-mod places;
-mod reading;
-mod rows;
-mod runs;
-mod scanning;
-mod words;
-mod writing;
+// The office sheet (document 02, 2026-03): hub names and identifiers as RFC 4180's comma-separated values. What a sheet is, and what reading and
+// writing one gives, is in specs/; here is what both ways share.
+use lists::both;
+ghost use mathlib.Core.Path.{_≡_};
+ghost use mathlib.Core.List.{[], _∷_};
+ghost use Prim.Native.Nat.{_+_, _-_, _≤_, _<_, min};
+ghost use lib.ListN.{length};
+ghost use Rattle.lists.specs.Splice.{splice};
+ghost use Rattle.sheets.specs.Grammar.{isDigit, bare as bareSpec};
 
-pub use carried::put_counts;
-pub use carried::read_sheet_bytes;
-pub use reading::read_sheet;
-pub use words::write_sheet_bytes;
-pub use writing::write_sheet;
+pub const QUOTE: u8 = 34;
 
-// Where a reader stands between two bytes of a sheet; Wrong where no sheet begins with the bytes before.
+pub const COMMA: u8 = 44;
+
+pub const CR: u8 = 13;
+
+pub const LF: u8 = 10;
+
+// Where a reader stands between two bytes of a sheet; Wrong where no sheet begins with the bytes before. (specs/Reader.antt)
 pub enum Place {
     Start,
     Plain,
@@ -35,13 +32,14 @@ pub enum Place {
     Wrong,
 }
 
-// What a byte does at the place that it leads to.
+// What a byte does at the place that it leads to: nothing; it is a byte of the name; it ends the name; it is a figure of the number; it ends
+// the row.
 pub enum Effect {
     Quiet,
-    Byte,
-    Name,
-    Digit,
-    Row,
+    Letter,
+    EndName,
+    Figure,
+    EndRow,
 }
 
 // What a text that ends at a place ends behind, if a sheet may end there.
@@ -51,36 +49,50 @@ pub enum Ending {
     BehindNumber,
 }
 
-// What is counted while a sheet is judged. An identifier counts up to 2^32, which is already too large.
-pub struct Count {
-    pub place: Place,
-    pub bytes: usize,
-    pub rows: usize,
-    pub value: u64,
-    pub fits: bool,
-}
-
 // What reading or writing a sheet gives: how many rows and bytes were written, or the number of a refusal.
 pub enum Outcome {
     Refused(u32),
     Done { rows: usize, bytes: usize },
 }
 
-// What is known of a name before it is written: how many bytes and quotes it has, and whether it may stand unquoted.
-pub struct Scan {
-    pub length: usize,
-    pub quotes: usize,
-    pub plain: bool,
+// May the byte stand unquoted?
+pub fn bare(b: u8) -> bool
+    ensures { λ r. ⌜ r ≡ bareSpec b ⌝ }
+{
+    both(both(b != QUOTE, b != COMMA), both(b != CR, b != LF))
 }
 
-// The room that is left in a text, if there is any.
-pub enum Room {
-    Short,
-    Left(usize),
+pub fn is_digit(b: u8) -> bool
+    ensures { λ r. ⌜ r ≡ isDigit b ⌝ }
+{
+    both(48 <= b, b <= 57)
 }
 
-// Digits one after the other: where they end, and the number that they make.
-pub struct Run {
-    pub end: usize,
-    pub value: u64,
+// The value of a digit; of a byte below all digits, which is never read as one, 0.
+pub fn digit_value(b: u8) -> usize
+    ensures { λ r. ⌜ (r ≡ b - 48) × (r < 256) ⌝ }
+{
+    if b < 48 {
+        return 0;
+    }
+    (b - 48) as usize
+}
+
+// The word of a number; of a larger one, which is refused before it is used, the largest word.
+pub fn word_of(value: usize) -> u32
+    ensures { λ r. ⌜ r ≡ min value 4294967295 ⌝ }
+{
+    if value < 4294967295 {
+        return value as u32;
+    }
+    4294967295
+}
+
+// One byte, at a place of a buffer. The place behind it is returned.
+pub fn put_byte(text: &mut [u8], at: usize, b: u8) -> usize
+    requires { ⌜ at + 1 ≤ length (now text) ⌝ }
+    ensures { λ r. ⌜ (r ≡ at + 1) × (now (text .exit) ≡ splice (now (text .entry)) at (b ∷ [])) ⌝ }
+{
+    text[at] = b;
+    at + 1
 }

@@ -2,7 +2,7 @@
 
 use std::slice::{from_raw_parts, from_raw_parts_mut};
 
-use ring_model::{bytes, ringrun, sheet};
+use ring_model::{bytes, ringrun};
 
 /// `ring_fresh` as the model has it.
 ///
@@ -97,7 +97,7 @@ pub unsafe extern "C" fn model_sheet_read(
     counts: *mut u8,
     counts_len: usize,
 ) -> u32 {
-    sheet::read_bytes(
+    bytes::ring_sheet_read(
         from_raw_parts(text, text_len),
         from_raw_parts_mut(identifiers, identifiers_len),
         from_raw_parts_mut(names, names_len),
@@ -120,7 +120,7 @@ pub unsafe extern "C" fn model_sheet_write(
     counts: *mut u8,
     counts_len: usize,
 ) -> u32 {
-    sheet::write_bytes(
+    bytes::ring_sheet_write(
         from_raw_parts(names, names_len),
         from_raw_parts(identifiers, identifiers_len),
         from_raw_parts_mut(text, text_len),

@@ -4,7 +4,7 @@ use mathlib.Core.List.{[], _∷_}
 use Prim.Native.Nat.{_+_, _/_}
 use Rattle.lists.specs.Splice.{splice}
 use Rattle.protocol.specs.Frames.{digitOf, print2}
-use Rattle.sheets.specs.Writing.{two-pieces}
+use Rattle.sheets.specs.Laying.{two-pieces}
 use borrow.Author.Needs.{needs}
 use Rattle.hubsheet.proofs.frame.put2.Statement.{statement}
 use Rattle.hubsheet.proofs.frame.put2.Tie as tie
@@ -31,7 +31,7 @@ returns : tie.Need-returns
 unfolding print2
 returns c =
     let a = c .before .before .before .before .before .before .before .before .before .before .before .args in
-    two-pieces (a .out .now) (a .at) (digitOf (a .v / 16) ∷ []) (digitOf (a .v) ∷ []) _ _ (a .at + 1) (c .before .before .before .before .before .before .before .put-byte .ensures ∙ ap (λ d. splice (a .out .now) (a .at) (d ∷ [])) (c .before .before .before .before .before .before .before .before .digit-of .ensures)) refl (c .before .before .put-byte2 .ensures ∙ ap (λ d. splice (c .before .before .before .before .before .before .before .put-byte .last .0) (a .at + 1) (d ∷ [])) (c .before .before .before .digit-of2 .ensures)) (c .before .before .before .before .before .before .before .before .before .before .before .pre)
+    two-pieces (a .out .now) (a .at) (digitOf (a .v / 16) ∷ []) (digitOf (a .v) ∷ []) _ _ (a .at + 1) (c .before .before .before .before .before .before .before .put-byte .ensures .1 ∙ ap (λ d. splice (a .out .now) (a .at) (d ∷ [])) (c .before .before .before .before .before .before .before .before .digit-of .ensures)) refl (c .before .before .put-byte2 .ensures .1 ∙ ap (λ d. splice (c .before .before .before .before .before .before .before .put-byte .last .0) (a .at + 1) (d ∷ [])) (c .before .before .before .digit-of2 .ensures)) (c .before .before .before .before .before .before .before .before .before .before .before .pre)
 
 pub put2-spec : {M : Type 1} → statement M
 put2-spec =

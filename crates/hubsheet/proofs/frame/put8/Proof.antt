@@ -2,7 +2,7 @@
 use mathlib.Core.Path.{refl}
 use Prim.Native.Nat.{_+_, _/_}
 use Rattle.protocol.specs.Frames.{print2, print4, print8}
-use Rattle.sheets.specs.Writing.{two-pieces}
+use Rattle.sheets.specs.Laying.{two-pieces}
 use borrow.Author.Needs.{needs}
 use Rattle.hubsheet.proofs.frame.put8.Statement.{statement}
 use Rattle.hubsheet.proofs.frame.put8.Tie as tie

@@ -71,7 +71,7 @@ returns c =
     let l = c .before .before .before .before .before .loop in
     let a = c .before .before .before .before .before .before .before .before .before .before .before .before .args in
     let e = founding-length (a .identifiers .now) in
-    (omega arith, founding-put (a .out .now) _ (l .out) _ (a .identifiers .now) (l .i) (omega arith) (omega arith) (c .before .before .before .before .before .before .before .before .put2 .ensures) (l .inv .1) (c .before .before .put-byte .ensures))
+    (omega arith, founding-put (a .out .now) _ (l .out) _ (a .identifiers .now) (l .i) (omega arith) (omega arith) (c .before .before .before .before .before .before .before .before .put2 .ensures) (l .inv .1) (c .before .before .put-byte .ensures .1))
 
 pub put-founding-spec : {M : Type 1} → statement M
 put-founding-spec =

@@ -1,0 +1,14 @@
+-- `kinds`: the table has the kind of each byte, which is computed at all of them. Assumes nothing.
+use mathlib.Core.Path.{refl}
+use Rattle.lists.specs.Basics.{if_then_else_, table}
+use Rattle.sheets.specs.Grammar.{bare, nonZero}
+use Rattle.sheet_reading.specs.Kinds.{plainByte, quotedByte, kindOf}
+use Rattle.sheet_reading.proofs.bytes.kinds.Statement.{statement}
+use Rattle.sheet_reading.proofs.bytes.kinds.Tie as tie
+
+returns : tie.Need-returns
+unfolding table kindOf plainByte quotedByte bare nonZero if_then_else_
+returns c = refl
+
+pub kinds-spec : {M : Type 1} → statement M
+kinds-spec = tie.close (tie.spec returns)
