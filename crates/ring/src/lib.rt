@@ -1,4 +1,5 @@
-// The ring engine as its callers see it: six calls on a lent record of 1,988 words (documents 01 and 02), and the step with a tally.
+// The ring engine as its callers see it: six calls on a lent record of 1,988 words (documents 01 and 02), the step with a tally, and two calls
+// for the office's list of hubs.
 //
 // None of them asks for anything: each takes slices of any length, any words in them and any numbers, and what is wrong is refused by
 // the documents' numbers. Their contracts are equations with the meaning in protocol/specs/Calls.antt:
@@ -10,10 +11,17 @@
 //     hub_row(record, hub)                        rowCall       the seven words of a hub, in the caller's own slice
 //     roll_call(record, hub, output)              rollCall      the hubs around the ring, from a hub on
 //     counted_step(record, operation, x, y, tally)  stepCall, counted
+//
+// and those for the sheet in sheets/specs/Calls.antt:
+//
+//     read_sheet(text, identifiers, names)        readCall      the hubs of a sheet
+//     write_sheet(names, identifiers, text)       writeCall     the sheet of hubs
 pub use founding::fresh;
 pub use founding::fresh_by;
 pub use queries::hub_row;
 pub use queries::owner;
 pub use queries::roll_call;
+pub use sheet_reading::read_sheet;
+pub use sheet_writing::write_sheet;
 pub use steps::step;
 pub use tally::step as counted_step;

@@ -66,6 +66,9 @@ pub extern "C" fn ring_fresh_by(words: &mut [u8], identifiers: &[u8], founder: u
     found(words, identifiers, Founder::Named(founder))
 }
 
+// Two counts of eight bytes.
+const COUNTS_BYTES: usize = 16;
+
 // The hubs of an office sheet, into the lent identifiers and names.
 #[no_mangle]
 pub extern "C" fn ring_sheet_read(
@@ -76,7 +79,7 @@ pub extern "C" fn ring_sheet_read(
 ) -> u32
     ensures { λ r. ⌜ sheetRead (now (text .entry)) (now (identifiers .entry)) (now (names .entry)) (now (counts .entry)) ≡ record { code = r; identifiers = now (identifiers .exit); names = now (names .exit); counts = now (counts .exit) } ⌝ }
 {
-    if counts.len() < 16 {
+    if counts.len() < COUNTS_BYTES {
         return refusals::OUTPUT_SHORT;
     }
     let r = read_sheet_bytes(text, identifiers, names);
@@ -93,7 +96,7 @@ pub extern "C" fn ring_sheet_write(
 ) -> u32
     ensures { λ r. ⌜ sheetWrite (now (names .entry)) (now (identifiers .entry)) (now (text .entry)) (now (counts .entry)) ≡ record { code = r; text = now (text .exit); counts = now (counts .exit) } ⌝ }
 {
-    if counts.len() < 16 {
+    if counts.len() < COUNTS_BYTES {
         return refusals::OUTPUT_SHORT;
     }
     let r = write_sheet_bytes(names, identifiers, text);

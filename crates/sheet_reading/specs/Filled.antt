@@ -13,20 +13,26 @@ use Rattle.lists.specs.Tests.{and-true, and-false, true-T, says-same, says-as, 
 use Rattle.lists.specs.Merge.{every-append}
 use Rattle.lists.specs.Splice.{splice}
 use Rattle.protocol.specs.Names.{NO-SHEET, IDENTIFIER-TOO-LARGE, ROOM-SHORT}
+use Rattle.sheet_reading.specs.declared.Judged.{Judged}
+use Rattle.sheet_reading.specs.declared.Judged.the-variants.{None as NoSheet, Sheet}
 use Rattle.sheet_reading.specs.declared.RowPut.{RowPut}
-use Rattle.sheets.specs.declared.Outcome.{Outcome}
-use Rattle.sheets.specs.declared.Outcome.the-variants.{Refused, Done}
+use Rattle.sheets.specs.declared.Outcome.the-variants.{Done}
 use Rattle.sheet_reading.specs.declared.RowRead.the-variants.{None as NoRow, Read as RowAt}
 use Rattle.sheets.specs.Bytes.{every-head, every-tail}
 use Rattle.sheets.specs.declared.Place.the-variants.{Start}
 use Rattle.sheets.specs.Reader.{Said, nothing, lists, fresh, reading, ending, endedAs}
-use Rattle.sheets.specs.Calls.{laid, isWord, judged, SheetRead, unread, readInto}
+use Rattle.sheets.specs.Calls.{laid, isWord, SheetRead, unread, readInto}
 use Rattle.sheets.specs.Words.{word, words, words-append, words-same, cap-word, every-one}
 use Rattle.sheets.specs.Laying.{laid-none, laid-more}
 use Rattle.sheets.specs.Sound.{silent, same-lists}
 use Rattle.sheet_reading.specs.Onward.{onward, onward-end, onward-grows}
 use Rattle.sheet_reading.specs.Judged.{capped, RowIs, RowSaid}
 use Rattle.sheet_reading.specs.Put.{Readable, RowPutIs}
+
+-- What a text is, before the outputs are looked at.
+unfoldable pub judged : Said → Judged
+judged nothing = NoSheet
+judged (lists n i) = Sheet (length i) (length n) (every isWord i)
 
 -- Judging: the rows up to i are counted.
 pub record Counted (t : List ℕ) (i rows bytes : ℕ) (fits : Bool) : Type 0 where
@@ -71,83 +77,78 @@ module _ (t : List ℕ) (i rows bytes : ℕ) (fits : Bool) (c : Counted t i rows
         below = (omega arith, omega arith);
       }
 
-  pub counted-wrong : RowIs t i NoRow → Refused NO-SHEET ≡ judged (reading t)
+  pub counted-wrong : RowIs t i NoRow → NoSheet ≡ judged (reading t)
   unfolding RowIs judged
   counted-wrong r = sym (ap judged (c .says ∙ r (c .names) (c .numbers) (c .value)))
 
-  pub counted-all : length t ≤ i → require fits (Refused IDENTIFIER-TOO-LARGE) (Done rows bytes) ≡ judged (reading t)
+  pub counted-all : length t ≤ i → Sheet rows bytes fits ≡ judged (reading t)
   unfolding judged endedAs ending
   counted-all h =
-      ap (λ z. require z (Refused IDENTIFIER-TOO-LARGE) (Done rows bytes)) (c .fitting)
-      ∙ ap₂ (λ p q. require (every isWord (c .numbers)) (Refused IDENTIFIER-TOO-LARGE) (Done p q)) (c .counts) (c .sizes)
+      ap (λ z. Sheet rows bytes z) (c .fitting) ∙ ap₂ (λ p q. Sheet p q (every isWord (c .numbers))) (c .counts) (c .sizes)
       ∙ sym (ap judged (c .says ∙ onward-end t Start (c .names) (c .numbers) (c .value) i h))
 
--- A sheet whose numbers fit.
-pub record Accepted (s : Said) (r b : ℕ) : Type 0 where
+-- A sheet that was judged.
+pub record Accepted (s : Said) (r b : ℕ) (f : Bool) : Type 0 where
   pub n : List ℕ
   pub i : List ℕ
   pub is : s ≡ lists n i
-  pub fit : every isWord i ≡ true
+  pub fit : f ≡ every isWord i
   pub rows : r ≡ length i
   pub bytes : b ≡ length n
 
-pub accepted : (r b : ℕ) (s : Said) → Done r b ≡ judged s → Accepted s r b
-unfolding judged require if_then_else_
-accepted r b nothing e = absurd (let q : _≡_ {A = ℕ} 0 1 = cc in omega arith)
-accepted r b (lists n i) e = go (every isWord i) refl e
-  where
-    go : (t : Bool) → every isWord i ≡ t → Done r b ≡ require t (Refused IDENTIFIER-TOO-LARGE) (Done (length i) (length n)) → Accepted (lists n i) r b
-    go true q e = record { n = n; i = i; is = refl; fit = q; rows = cc; bytes = cc }
-    go false q e = absurd (let z : _≡_ {A = ℕ} 0 1 = cc in omega arith)
+pub accepted : (r b : ℕ) (f : Bool) (s : Said) → Sheet r b f ≡ judged s → Accepted s r b f
+unfolding judged
+accepted r b f nothing e = absurd (let q : _≡_ {A = ℕ} 0 1 = cc in omega arith)
+accepted r b f (lists n i) e = record { n = n; i = i; is = refl; fit = cc; rows = cc; bytes = cc }
 
 -- The sheet's lists fit into buffers of these lengths.
 abbrev pub Roomy : Said → (List ℕ → List ℕ) → ℕ → ℕ → Type 0
 Roomy s form k l = (n : List ℕ) × (i : List ℕ) × (s ≡ lists n i) × (length (form i) ≤ k) × (length n ≤ l)
 
 module _ (form : List ℕ → List ℕ) where
-  pub read-refused : (ids names : List ℕ) (k : ℕ) (s : Said) → Refused k ≡ judged s → readInto form ids names s ≡ unread ids names k
-  unfolding judged readInto require if_then_else_
-  read-refused ids names k nothing e = let q : k ≡ NO-SHEET = cc in ap (unread ids names) (sym q)
-  read-refused ids names k (lists n i) e = go (every isWord i) e
-    where
-      rest : SheetRead
-      rest = require (leb (length (form i)) (length ids) && leb (length n) (length names)) (unread ids names ROOM-SHORT)
-          (record { outcome = Done (length i) (length n); identifiers = laid ids (form i); names = laid names n })
+  pub read-none : (ids names : List ℕ) (s : Said) → NoSheet ≡ judged s → readInto form ids names s ≡ unread ids names NO-SHEET
+  unfolding judged readInto
+  read-none ids names nothing e = refl
+  read-none ids names (lists n i) e = absurd (let q : _≡_ {A = ℕ} 0 1 = cc in omega arith)
 
-      go : (b : Bool) → Refused k ≡ require b (Refused IDENTIFIER-TOO-LARGE) (Done (length i) (length n)) → require b (unread ids names IDENTIFIER-TOO-LARGE) rest ≡ unread ids names k
-      go true e = absurd (let q : _≡_ {A = ℕ} 0 1 = cc in omega arith)
-      go false e = let q : k ≡ IDENTIFIER-TOO-LARGE = cc in ap (unread ids names) (sym q)
+  module _ (ids names : List ℕ) (r b : ℕ) (f : Bool) (s : Said) (e : Sheet r b f ≡ judged s) where
+    abbrev pub a : Accepted s r b f
+    a = accepted r b f s e
 
-  module _ (ids names : List ℕ) (r b : ℕ) (s : Said) (e : Done r b ≡ judged s) where
-    abbrev pub a : Accepted s r b
-    a = accepted r b s e
-
-    rest-of : (k : SheetRead) → require (leb (length (form (a .i))) (length ids) && leb (length (a .n)) (length names)) (unread ids names ROOM-SHORT)
-        (record { outcome = Done (length (a .i)) (length (a .n)); identifiers = laid ids (form (a .i)); names = laid names (a .n) }) ≡ k → readInto form ids names s ≡ k
+    pub too-large : f ≡ false → readInto form ids names s ≡ unread ids names IDENTIFIER-TOO-LARGE
     unfolding readInto
-    rest-of k e = ap (readInto form ids names) (a .is) ∙ on-yes (every isWord (a .i)) _ _ (a .fit) ∙ e
+    too-large q = ap (readInto form ids names) (a .is) ∙ on-no (every isWord (a .i)) _ _ (sym (a .fit) ∙ q)
 
-    pub short-ids : length ids < length (form (a .i)) → readInto form ids names s ≡ unread ids names ROOM-SHORT
-    short-ids h = rest-of _ (on-no _ _ _ (rw (lt-leb (length (form (a .i))) (length ids) h)))
+    module _ (all : f ≡ true) where
+      fits : every isWord (a .i) ≡ true
+      fits = sym (a .fit) ∙ all
 
-    pub short-names : length names < b → readInto form ids names s ≡ unread ids names ROOM-SHORT
-    short-names h =
-        let x = a .bytes in
-        rest-of _ (on-no _ _ _ (rw (lt-leb (length (a .n)) (length names) (omega arith)) (and-false (leb (length (form (a .i))) (length ids)))))
+      rest-of : (k : SheetRead) → require (leb (length (form (a .i))) (length ids) && leb (length (a .n)) (length names)) (unread ids names ROOM-SHORT)
+          (record { outcome = Done (length (a .i)) (length (a .n)); identifiers = laid ids (form (a .i)); names = laid names (a .n) }) ≡ k → readInto form ids names s ≡ k
+      unfolding readInto
+      rest-of k e = ap (readInto form ids names) (a .is) ∙ on-yes (every isWord (a .i)) _ _ fits ∙ e
 
-    module _ (h : length (form (a .i)) ≤ length ids) (k : b ≤ length names) where
-      pub roomy : Roomy s form (length ids) (length names)
-      roomy = let y = a .bytes in (a .n, a .i, a .is, h, omega arith)
+      pub short-ids : length ids < length (form (a .i)) → readInto form ids names s ≡ unread ids names ROOM-SHORT
+      short-ids h = rest-of _ (on-no _ _ _ (rw (lt-leb (length (form (a .i))) (length ids) h)))
 
-      pub all-read : (u w : List ℕ) → ((n c : List ℕ) → s ≡ lists n c → (u ≡ laid ids (form (words c))) × (w ≡ laid names n)) → readInto form ids names s ≡ record { outcome = Done r b; identifiers = u; names = w }
-      all-read u w f =
-          let x = a .rows in
-          let y = a .bytes in
-          let g = f (a .n) (a .i) (a .is) in
-          rest-of _ (
-          on-yes _ _ _ (rw (le-leb (length (form (a .i))) (length ids) h, le-leb (length (a .n)) (length names) (omega arith)))
-          ∙ ap₂ (λ p q. record { outcome = Done p q; identifiers = laid ids (form (a .i)); names = laid names (a .n) }) (sym x) (sym y)
-          ∙ ap₂ (λ p q. record { outcome = Done r b; identifiers = p; names = q }) (sym (g .0 ∙ ap (λ z. laid ids (form z)) (words-same (a .i) (a .fit)))) (sym (g .1)))
+      pub short-names : length names < b → readInto form ids names s ≡ unread ids names ROOM-SHORT
+      short-names h =
+          let x = a .bytes in
+          rest-of _ (on-no _ _ _ (rw (lt-leb (length (a .n)) (length names) (omega arith)) (and-false (leb (length (form (a .i))) (length ids)))))
+
+      module _ (h : length (form (a .i)) ≤ length ids) (k : b ≤ length names) where
+        pub roomy : Roomy s form (length ids) (length names)
+        roomy = let y = a .bytes in (a .n, a .i, a .is, h, omega arith)
+
+        pub all-read : (u w : List ℕ) → ((n c : List ℕ) → s ≡ lists n c → (u ≡ laid ids (form (words c))) × (w ≡ laid names n)) → readInto form ids names s ≡ record { outcome = Done r b; identifiers = u; names = w }
+        all-read u w f =
+            let x = a .rows in
+            let y = a .bytes in
+            let g = f (a .n) (a .i) (a .is) in
+            rest-of _ (
+            on-yes _ _ _ (rw (le-leb (length (form (a .i))) (length ids) h, le-leb (length (a .n)) (length names) (omega arith)))
+            ∙ ap₂ (λ p q. record { outcome = Done p q; identifiers = laid ids (form (a .i)); names = laid names (a .n) }) (sym x) (sym y)
+            ∙ ap₂ (λ p q. record { outcome = Done r b; identifiers = p; names = q }) (sym (g .0 ∙ ap (λ z. laid ids (form z)) (words-same (a .i) fits))) (sym (g .1)))
 
 -- All that a sheet says is in the buffers.
 abbrev pub AllFilled : (List ℕ → List ℕ) → List ℕ → List ℕ → List ℕ → List ℕ → List ℕ → Type 0

@@ -1,4 +1,5 @@
 // The office sheet read into identifiers and names.
+use crate::Judged;
 use crate::copying::copy_row;
 use crate::judging::judge;
 use protocol::refusals;
@@ -31,17 +32,19 @@ fn fill(text: &[u8], identifiers: &mut [u32], names: &mut [u8])
 pub fn read_sheet(text: &[u8], identifiers: &mut [u32], names: &mut [u8]) -> Outcome
     ensures { λ r. ⌜ readCall (now (text .entry)) (now (identifiers .entry)) (now (names .entry)) ≡ record { outcome = r; identifiers = now (identifiers .exit); names = now (names .exit) } ⌝ }
 {
-    match judge(text) {
-        Outcome::Refused(k) => Outcome::Refused(k),
-        Outcome::Done { rows, bytes } => {
-            if identifiers.len() < rows {
-                return Outcome::Refused(refusals::ROOM_SHORT);
-            }
-            if names.len() < bytes {
-                return Outcome::Refused(refusals::ROOM_SHORT);
-            }
-            fill(text, identifiers, names);
-            Outcome::Done { rows, bytes }
-        }
+    let j = judge(text);
+    let Judged::Sheet { rows, bytes, fits } = j else {
+        return Outcome::Refused(refusals::NO_SHEET);
+    };
+    if !fits {
+        return Outcome::Refused(refusals::IDENTIFIER_TOO_LARGE);
     }
+    if identifiers.len() < rows {
+        return Outcome::Refused(refusals::ROOM_SHORT);
+    }
+    if names.len() < bytes {
+        return Outcome::Refused(refusals::ROOM_SHORT);
+    }
+    fill(text, identifiers, names);
+    Outcome::Done { rows, bytes }
 }

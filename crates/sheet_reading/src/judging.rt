@@ -1,4 +1,5 @@
 // A sheet judged, row by row: is it one, do its identifiers fit, how many rows and bytes of names does it say?
+use crate::Judged;
 use crate::Name;
 use crate::Number;
 use crate::RowEnd;
@@ -7,19 +8,16 @@ use crate::bytes::kinds;
 use crate::names::name_at;
 use crate::numbers::number_at;
 use lists::both;
-use protocol::refusals;
 use sheets::CR;
 use sheets::LF;
-use sheets::Outcome;
 ghost use mathlib.Core.Path.{_≡_};
 ghost use Prim.Native.Nat.{_≤_, _<_};
 ghost use lib.ListN.{length};
-ghost use Rattle.lists.specs.Basics.{require, table};
-ghost use Rattle.sheets.specs.declared.Outcome.the-variants.{Refused, Done};
+ghost use Rattle.lists.specs.Basics.{table};
 ghost use Rattle.sheets.specs.Reader.{reading};
-ghost use Rattle.sheets.specs.Calls.{judged};
 ghost use Rattle.sheet_reading.specs.Kinds.{kindOf};
 ghost use Rattle.sheet_reading.specs.Judged.{EndIs, RowIs};
+ghost use Rattle.sheet_reading.specs.Filled.{judged};
 
 // Behind a number: the end of the text, or CR LF.
 pub(crate) fn row_end(text: &[u8], from: usize) -> RowEnd
@@ -60,18 +58,8 @@ fn row_at(text: &[u8], kinds: &[u8; 256], from: usize) -> RowRead
     RowRead::Read { end, bytes, value }
 }
 
-// A sheet of so many rows and bytes, whose identifiers fit or not.
-fn sheet_of(fits: bool, rows: usize, bytes: usize) -> Outcome
-    ensures { λ r. ⌜ r ≡ require fits (Refused 20) (Done rows bytes) ⌝ }
-{
-    if fits {
-        return Outcome::Done { rows, bytes };
-    }
-    Outcome::Refused(refusals::IDENTIFIER_TOO_LARGE)
-}
-
-// All of the text is judged before its identifiers are, so that 19 comes before 20.
-pub(crate) fn judge(text: &[u8]) -> Outcome
+// All of the text is looked at, so that whoever calls can ask for 19 before 20.
+pub(crate) fn judge(text: &[u8]) -> Judged
     ensures { λ r. ⌜ r ≡ judged (reading (now (text .entry))) ⌝ }
 {
     let table = kinds();
@@ -87,12 +75,12 @@ pub(crate) fn judge(text: &[u8]) -> Outcome
             value,
         } = r
         else {
-            return Outcome::Refused(refusals::NO_SHEET);
+            return Judged::None;
         };
         rows += 1;
         bytes += more;
         fits = both(fits, value <= 4294967295);
         i = end;
     }
-    sheet_of(fits, rows, bytes)
+    Judged::Sheet { rows, bytes, fits }
 }

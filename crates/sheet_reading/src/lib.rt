@@ -40,6 +40,16 @@ pub enum RowRead {
     },
 }
 
+// A text: no sheet, or one of so many rows and bytes of names, whose identifiers all fit a word or not.
+pub enum Judged {
+    None,
+    Sheet {
+        rows: usize,
+        bytes: usize,
+        fits: bool,
+    },
+}
+
 // Digits one after the other: where they end, and the number that they make, up to 2^32.
 pub struct Run {
     pub end: usize,

@@ -20,11 +20,6 @@ laid w l = l ++ drop (length l) w
 unfoldable pub isWord : ℕ → Bool
 isWord v = leb v 4294967295
 
--- What a text is worth before the outputs are looked at.
-unfoldable pub judged : Said → Outcome
-judged nothing = Refused NO-SHEET
-judged (lists n i) = require (every isWord i) (Refused IDENTIFIER-TOO-LARGE) (Done (length i) (length n))
-
 -- What reading a sheet leaves: its outcome, and the lent identifiers and names.
 pub record SheetRead : Type 0 where
   pub outcome : Outcome

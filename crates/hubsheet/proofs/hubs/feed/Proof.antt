@@ -44,9 +44,12 @@ loop-again c =
     let l = c .before .before .before .before .before .before .before .before .before .loop in
     let a = c .before .before .before .before .before .before .before .before .before .before .before .before .args in
     let t = a .text .now in
-    let q = feeds-more (a .begun) (l .h) (a .identifiers .now) (l .identifiers) t (l .i) (c .before .before .before .before .before .before .before .before .loop-test .taken) (l .inv .3) in
-    (subst (λ z. z .value ≤ 4294967296) (sym (c .after .ensures)) (after-small (c .before .before .before .before .before .effect .result) (l .h) (c .before .before .before .before .before .before .next .result) _ (l .inv .0)), search needs, c .before .before .before .keep-by .kept .1 .0 ∙ l .inv .2,
-    simp (c .after .ensures, c .before .before .before .keep-by .ensures, c .before .before .before .before .before .effect .ensures, c .before .before .before .before .before .before .next .ensures) q)
+    let q = feeds-more (a .begun) (l .h) (a .identifiers .now) (l .identifiers) t (l .i) (c .before .before .before .before .before .before .before .before .loop-test .taken) (l .inv .3) in (
+      subst (λ z. z .value ≤ 4294967296) (sym (c .after .ensures)) (after-small (c .before .before .before .before .before .effect .result) (l .h) (c .before .before .before .before .before .before .next .result) _ (l .inv .0)),
+      search needs,
+      c .before .before .before .keep-by .kept .1 .0 ∙ l .inv .2,
+      simp (c .after .ensures, c .before .before .before .keep-by .ensures, c .before .before .before .before .before .effect .ensures, c .before .before .before .before .before .before .next .ensures) q,
+    )
 
 same-length : tie.Need-same-length Inv-loop μ-loop
 same-length c = c .before .loop .inv .2

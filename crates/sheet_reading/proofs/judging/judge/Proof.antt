@@ -3,8 +3,6 @@ use mathlib.Core.Path.{_≡_, subst, sym, _∙_}
 use Prim.Native.Nat.{_-_}
 use native.Mathlib.Omega.{arith}
 use lib.ListN.{length}
-use Rattle.lists.specs.Basics.{table}
-use Rattle.sheet_reading.specs.Kinds.{kindOf}
 use Rattle.sheet_reading.specs.Judged.{RowIs}
 use Rattle.sheet_reading.specs.Filled.{Counted, counted-none, counted-row, counted-wrong, counted-all}
 use borrow.Author.Needs.{needs}
@@ -52,11 +50,8 @@ loop-less c = let r = subst (RowIs (c .before .before .before .before .before .b
 loop-again : tie.Need-loop-again Inv-loop μ-loop
 loop-again c = subst (Counted (c .before .before .before .before .before .before .before .before .before .before .args .text .now) _ _ _) (sym (c .both .ensures)) (counted-row (c .before .before .before .before .before .before .before .before .before .before .args .text .now) (c .before .before .before .before .before .before .before .loop .i) (c .before .before .before .before .before .before .before .loop .rows) (c .before .before .before .before .before .before .before .loop .bytes) (c .before .before .before .before .before .before .before .loop .fits) (c .before .before .before .before .before .before .before .loop .inv) _ _ _ (subst (RowIs (c .before .before .before .before .before .before .before .before .before .before .args .text .now) (c .before .before .before .before .before .before .before .loop .i)) (c .before .before .r .given .1) (c .before .before .before .before .row-at .ensures)))
 
-sheet-of-requires : tie.Need-sheet-of-requires Inv-loop μ-loop
-sheet-of-requires c κs = search needs
-
 returns-2 : tie.Need-returns-2 Inv-loop μ-loop
-returns-2 c = c .sheet-of .ensures ∙ counted-all (c .before .before .before .before .before .args .text .now) (c .before .before .loop .i) (c .before .before .loop .rows) (c .before .before .loop .bytes) (c .before .before .loop .fits) (c .before .before .loop .inv) (omega arith)
+returns-2 c = counted-all (c .before .before .before .before .args .text .now) (c .before .loop .i) (c .before .loop .rows) (c .before .loop .bytes) (c .before .loop .fits) (c .before .loop .inv) (omega arith)
 
 pub judge-spec : {M : Type 1} → statement M
 judge-spec =
@@ -75,5 +70,4 @@ judge-spec =
     both-requires
     loop-less
     loop-again
-    sheet-of-requires
     returns-2)
