@@ -1,15 +1,15 @@
 -- What the reading calls give, question by question, and the rows that fill the lent buffers. Assumes nothing.
 use mathlib.Core.Path.{_≡_, refl, ap, ap₂, sym, _∙_, subst}
-use mathlib.Core.Bool.{Bool, true, false, _&&_}
+use mathlib.Core.Bool.{Bool, true, false, _&&_, _||_}
 use mathlib.Core.List.{List, [], _∷_, _++_, append-assoc, append-nil}
 use Prim.Native.Nat.{ℕ, _+_, _*_, _≤_, _<_, min}
 use native.Mathlib.Omega.{arith}
-use borrow.Author.Tests.{le-leb, lt-leb}
-use lib.Dec.{leb, leb→le}
+use borrow.Author.Tests.{ltb-true, ltb-false, le-leb, lt-leb}
+use lib.Dec.{T, leb, ltb}
 use lib.ListN.{length, getD, length-append}
 use Rattle.lists.specs.Basics.{if_then_else_, require, every}
 use Rattle.lists.specs.Choice.{on-yes, on-no}
-use Rattle.lists.specs.Tests.{and-true, and-false, true-T, says-same, says-as, says-le}
+use Rattle.lists.specs.Tests.{and-false, true-T}
 use Rattle.lists.specs.Merge.{every-append}
 use Rattle.lists.specs.Splice.{splice}
 use Rattle.protocol.specs.Names.{NO-SHEET, IDENTIFIER-TOO-LARGE, ROOM-SHORT}
@@ -101,6 +101,11 @@ unfolding judged
 accepted r b f nothing e = absurd (let q : _≡_ {A = ℕ} 0 1 = cc in omega arith)
 accepted r b f (lists n i) e = record { n = n; i = i; is = refl; fit = cc; rows = cc; bytes = cc }
 
+-- two tests of which none passes
+pub neither : (p q : Bool) → (p || q) ≡ false → (p ≡ false) × (q ≡ false)
+neither true q e = (e, absurd (let z : T false = true-T false (sym e) in z))
+neither false q e = (refl, e)
+
 -- The sheet's lists fit into buffers of these lengths.
 abbrev pub Roomy : Said → (List ℕ → List ℕ) → ℕ → ℕ → Type 0
 Roomy s form k l = (n : List ℕ) × (i : List ℕ) × (s ≡ lists n i) × (length (form i) ≤ k) × (length n ≤ l)
@@ -128,12 +133,12 @@ module _ (form : List ℕ → List ℕ) where
       unfolding readInto
       rest-of k e = ap (readInto form ids names) (a .is) ∙ on-yes (every isWord (a .i)) _ _ fits ∙ e
 
-      pub short-ids : length ids < length (form (a .i)) → readInto form ids names s ≡ unread ids names ROOM-SHORT
-      short-ids h = rest-of _ (on-no _ _ _ (rw (lt-leb (length (form (a .i))) (length ids) h)))
-
-      pub short-names : length names < b → readInto form ids names s ≡ unread ids names ROOM-SHORT
-      short-names h =
+      -- is an output too short? asked of the places that the identifiers have
+      pub room-short : (q : Bool) → (q ≡ true → length ids < length (form (a .i))) → (q || ltb (length names) b) ≡ true → readInto form ids names s ≡ unread ids names ROOM-SHORT
+      room-short true g e = rest-of _ (on-no _ _ _ (rw (lt-leb (length (form (a .i))) (length ids) (g refl))))
+      room-short false g e =
           let x = a .bytes in
+          let h = ltb-true (length names) b e in
           rest-of _ (on-no _ _ _ (rw (lt-leb (length (a .n)) (length names) (omega arith)) (and-false (leb (length (form (a .i))) (length ids)))))
 
       module _ (h : length (form (a .i)) ≤ length ids) (k : b ≤ length names) where

@@ -2,6 +2,7 @@
 use crate::Judged;
 use crate::copying::copy_row;
 use crate::judging::judge;
+use lists::either;
 use protocol::refusals;
 use sheets::Outcome;
 use sheets::put_byte;
@@ -54,13 +55,11 @@ pub fn read_sheet_bytes(text: &[u8], identifiers: &mut [u8], names: &mut [u8]) -
     let Judged::Sheet { rows, bytes, fits } = j else {
         return Outcome::Refused(refusals::NO_SHEET);
     };
+    let is_short = either(identifiers.len() / 4 < rows, names.len() < bytes);
     if !fits {
         return Outcome::Refused(refusals::IDENTIFIER_TOO_LARGE);
     }
-    if identifiers.len() / 4 < rows {
-        return Outcome::Refused(refusals::ROOM_SHORT);
-    }
-    if names.len() < bytes {
+    if is_short {
         return Outcome::Refused(refusals::ROOM_SHORT);
     }
     fill_bytes(text, identifiers, names);

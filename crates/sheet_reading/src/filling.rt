@@ -2,6 +2,7 @@
 use crate::Judged;
 use crate::copying::copy_row;
 use crate::judging::judge;
+use lists::either;
 use protocol::refusals;
 use sheets::Outcome;
 use sheets::word_of;
@@ -36,13 +37,11 @@ pub fn read_sheet(text: &[u8], identifiers: &mut [u32], names: &mut [u8]) -> Out
     let Judged::Sheet { rows, bytes, fits } = j else {
         return Outcome::Refused(refusals::NO_SHEET);
     };
+    let is_short = either(identifiers.len() < rows, names.len() < bytes);
     if !fits {
         return Outcome::Refused(refusals::IDENTIFIER_TOO_LARGE);
     }
-    if identifiers.len() < rows {
-        return Outcome::Refused(refusals::ROOM_SHORT);
-    }
-    if names.len() < bytes {
+    if is_short {
         return Outcome::Refused(refusals::ROOM_SHORT);
     }
     fill(text, identifiers, names);

@@ -1,5 +1,5 @@
--- Request 2026-03: which bytes are a sheet, and which rows they say. The grammar is RFC 4180's, section 2, for two fields a row and no
--- header. It says what a sheet is, not how to read one: Reader.antt decides it.
+-- The office's sheet (document 02, 2026-03): which bytes are one, and which rows they say. The grammar is RFC 4180's, section 2, for two fields
+-- a row and no header. It says what a sheet is, not how to read one: Reader.antt decides it.
 use mathlib.Core.Path.{_≡_}
 use mathlib.Core.Bool.{Bool, true, not, _&&_}
 use mathlib.Core.List.{List, [], _∷_, _++_}
@@ -20,16 +20,16 @@ cr = 13
 abbrev pub lf : ℕ
 lf = 10
 
--- 'name, identifier in decimal'
+-- What a row says.
 pub record Row : Type 0 where
   pub name : List ℕ
   pub identifier : ℕ
 
--- 'Bytes other than quote, comma, CR and LF may stand unquoted.'
+-- The bytes that need no quotes around them: all but four.
 unfoldable pub bare : ℕ → Bool
 bare b = (not (eqb b quote) && not (eqb b comma)) && (not (eqb b cr) && not (eqb b lf))
 
--- 'Names hold quotes, which that standard doubles.'
+-- Within quotes a quote stands twice.
 unfoldable pub doubled : List ℕ → List ℕ
 doubled [] = []
 doubled (b ∷ s) = if eqb b quote then quote ∷ quote ∷ doubled s else b ∷ doubled s
@@ -39,7 +39,7 @@ pub data Field : List ℕ → List ℕ → Type 0 where
   plain : {s : List ℕ} → every bare s ≡ true → Field s s
   quoted : {s : List ℕ} → Field (quote ∷ (doubled s ++ (quote ∷ []))) s
 
--- 'A name may be empty but holds no zero byte.'
+-- A name ends at a zero byte where it is lent, so it has none inside.
 unfoldable pub nonZero : ℕ → Bool
 nonZero b = not (eqb b 0)
 
@@ -51,12 +51,12 @@ unfoldable pub worth : ℕ → List ℕ → ℕ
 worth v [] = v
 worth v (b ∷ s) = worth (10 * v + (b - 48)) s
 
--- 'An identifier is one or more digits, quoted or not'
+-- A row: a name, a comma, and digits, of which there is at least one. Both fields may be quoted.
 pub data RowText : List ℕ → Row → Type 0 where
   row : {f g name digits : List ℕ} → Field f name → every nonZero name ≡ true → Field g digits → every isDigit digits ≡ true → 1 ≤ length digits
       → RowText (f ++ (comma ∷ g)) (record { name = name; identifier = worth 0 digits })
 
--- 'Rows end in CR LF, which the last row read may lack'. 'An empty text is an empty list.'
+-- A sheet: no row at all; or a row that ends the text; or a row, CR LF, and a sheet.
 pub data Sheet : List ℕ → List Row → Type 0 where
   empty : Sheet [] []
   last : {t : List ℕ} {r : Row} → RowText t r → Sheet t (r ∷ [])

@@ -1,4 +1,5 @@
--- The reader: a byte at a time, from place to place. Decides.antt shows that it reads exactly the sheets of Grammar.antt. Assumes nothing.
+-- The reader: a byte at a time, from place to place. `decides` (Theorem.antt) says that it reads exactly the sheets of Grammar.antt. Assumes
+-- nothing.
 use mathlib.Core.List.{List, [], _∷_, _++_}
 use Prim.Native.Nat.{ℕ, _+_, _-_, _*_}
 use lib.Dec.{eqb}
@@ -63,7 +64,7 @@ effect NumberClosed = Quiet
 effect Return = EndRow
 effect Wrong = Quiet
 
--- What it adds to the names: 'each followed by a zero byte'.
+-- What it adds to the names: a byte, or the zero byte behind a name.
 unfoldable pub said : Effect → ℕ → List ℕ
 said Quiet b = []
 said Letter b = b ∷ []

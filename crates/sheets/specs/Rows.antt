@@ -1,4 +1,4 @@
--- A list of rows as it lies in the lent buffers: 'the unquoted names end to end, each followed by a zero byte', and the identifiers.
+-- A list of rows as it lies in the lent buffers: the names, a zero byte behind each, and the identifiers.
 use mathlib.Core.List.{List, [], _∷_, _++_}
 use Prim.Native.Nat.{ℕ}
 use Rattle.sheets.specs.Grammar.{Row}

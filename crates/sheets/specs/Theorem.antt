@@ -1,5 +1,5 @@
--- Request 2026-03's claims. The reader decides the grammar; 'reading it back gives the same list'; and what reading gives can be written.
--- Assumes nothing.
+-- The claims about the office's sheet (document 02, 2026-03): the reader decides the grammar; what was written is read back as it was; and what was
+-- read can be written. Assumes nothing.
 use mathlib.Core.Path.{_≡_, refl, ap, ap₂, sym, _∙_, subst}
 use mathlib.Core.Logic.{_⊎_, inl, inr}
 use mathlib.Core.Bool.{true, _&&_}
@@ -48,7 +48,7 @@ written-is-sheet (r ∷ rs) w =
     let e : (f ++ (comma ∷ (d ++ (cr ∷ lf ∷ [])))) ++ writeSheet rs ≡ (f ++ (comma ∷ d)) ++ (cr ∷ lf ∷ writeSheet rs) = simp append-assoc in
     subst (λ t. Sheet t (r ∷ rs)) (sym e) (more (row-written r (w .0)) (written-is-sheet rs (w .1)))
 
--- 'reading it back gives the same list'
+-- What was written is read back as it was.
 pub round-trip : (rs : List Row) → All Writable rs → reading (writeSheet rs) ≡ lists (namesOf rs) (identifiersOf rs)
 round-trip rs w = complete (written-is-sheet rs w)
 
@@ -86,7 +86,7 @@ pub read-back : (l ids : List ℕ) → namesFor l (length ids) ≡ true → ever
 unfolding sheetText
 read-back l ids f e = round-trip (rowsIn l ids) (writable-in l ids e) ∙ ap₂ lists (names-back l ids f) (ids-in l ids)
 
--- 'What reading gives can be written': it is one zero-ended name for each identifier.
+-- What was read can be written: it is one name with its zero byte for each identifier.
 pub can-be-written : (t n i : List ℕ) → reading t ≡ lists n i → namesFor n (length i) ≡ true
 can-be-written t n i e =
     let r = sound t n i e in

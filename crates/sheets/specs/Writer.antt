@@ -1,4 +1,4 @@
--- Request 2026-03: the text that is written for rows, and the rows that lie in the lent buffers.
+-- The office's sheet (document 02, 2026-03): the one text that is written for rows, and the rows that lie in the lent buffers.
 use mathlib.Core.Bool.{Bool, true, _&&_}
 use mathlib.Core.List.{List, [], _∷_, _++_}
 use Prim.Native.Nat.{ℕ, zero, suc, _+_, _/_, _%_}
@@ -6,7 +6,7 @@ use lib.Dec.{eqb, ltb}
 use Rattle.lists.specs.Basics.{if_then_else_, every}
 use Rattle.sheets.specs.Grammar.{Row, quote, comma, cr, lf, bare, doubled}
 
--- 'quoting exactly the names that hold a quote, comma, CR or LF'
+-- A name is quoted where one of its bytes needs it, and nowhere else.
 unfoldable pub nameText : List ℕ → List ℕ
 nameText s = if every bare s then s else quote ∷ (doubled s ++ (quote ∷ []))
 
@@ -29,11 +29,11 @@ digitCount v =
     else if ltb v 1000000000 then 9
     else 10
 
--- 'is written unquoted without leading zeros'
+-- An identifier: its digits alone.
 unfoldable pub decimal : ℕ → List ℕ
 decimal v = lastDigits (digitCount v) v
 
--- 'Rows end in CR LF, which .. every row written has.'
+-- A row, with CR LF behind it, the last one too.
 unfoldable pub rowText : Row → List ℕ
 rowText r = nameText (r .name) ++ (comma ∷ (decimal (r .identifier) ++ (cr ∷ lf ∷ [])))
 
@@ -55,7 +55,7 @@ unfoldable pub rowsIn : List ℕ → List ℕ → List Row
 rowsIn l [] = []
 rowsIn l (v ∷ ids) = record { name = firstName l; identifier = v } ∷ rowsIn (behindName l) ids
 
--- 'names .. that are .. exactly one zero-ended name for each identifier': as many zero bytes as identifiers, the last of them at the end.
+-- Are the bytes one name for each identifier, and nothing else? There are as many zero bytes as identifiers, and nothing behind the last.
 unfoldable pub zeros : List ℕ → ℕ
 zeros [] = 0
 zeros (b ∷ s) = if eqb b 0 then 1 + zeros s else zeros s

@@ -1,9 +1,11 @@
 -- `read_sheet`: judged, then written. Assumes nothing.
 use mathlib.Core.Path.{sym, _∙_}
 use native.Mathlib.Omega.{arith}
-use borrow.Author.Tests.{not-true, not-false}
+use borrow.Author.Tests.{ltb-true, ltb-false, not-true, not-false}
 use Rattle.sheets.specs.Calls.{asWords, readCall}
-use Rattle.sheet_reading.specs.Filled.{accepted, read-none, too-large, short-ids, short-names, roomy, all-read}
+use lib.Dec.{ltb}
+use lib.ListN.{length}
+use Rattle.sheet_reading.specs.Filled.{accepted, neither, read-none, too-large, room-short, roomy, all-read}
 use borrow.Author.Needs.{needs}
 use Rattle.sheet_reading.proofs.filling.read_sheet.Statement.{statement}
 use Rattle.sheet_reading.proofs.filling.read_sheet.Tie as tie
@@ -21,20 +23,19 @@ returns : tie.Need-returns
 unfolding readCall
 returns c = read-none asWords (c .before .before .before .before .before .before .args .identifiers .now) (c .before .before .before .before .before .before .args .names .now) _ (sym (c .enum-told .given .1) ∙ c .before .before .judge .ensures)
 
+either-requires : tie.Need-either-requires
+either-requires c κs = search needs
+
 returns-2 : tie.Need-returns-2
 unfolding readCall
-returns-2 c = too-large asWords (c .before .before .before .before .before .before .before .before .args .identifiers .now) (c .before .before .before .before .before .before .before .before .args .names .now) _ _ _ _ (sym (c .before .before .j .given .1) ∙ c .before .before .before .before .judge .ensures) (not-true _ (c .if1 .taken))
+returns-2 c = too-large asWords (c .before .before .before .before .before .before .before .before .before .args .identifiers .now) (c .before .before .before .before .before .before .before .before .before .args .names .now) _ _ _ _ (sym (c .before .before .before .j .given .1) ∙ c .before .before .before .before .before .judge .ensures) (not-true _ (c .if1 .taken))
 
 returns-3 : tie.Need-returns-3
 unfolding readCall
-returns-3 c = short-ids asWords (c .before .before .before .before .before .before .before .before .before .args .identifiers .now) (c .before .before .before .before .before .before .before .before .before .args .names .now) _ _ _ _ (sym (c .before .before .before .j .given .1) ∙ c .before .before .before .before .before .judge .ensures) (not-false _ (c .before .if1 .left)) (let x = accepted _ _ _ _ (sym (c .before .before .before .j .given .1) ∙ c .before .before .before .before .before .judge .ensures) .rows in omega arith)
-
-returns-4 : tie.Need-returns-4
-unfolding readCall
-returns-4 c = short-names asWords (c .before .before .before .before .before .before .before .before .before .before .args .identifiers .now) (c .before .before .before .before .before .before .before .before .before .before .args .names .now) _ _ _ _ (sym (c .before .before .before .before .j .given .1) ∙ c .before .before .before .before .before .before .judge .ensures) (not-false _ (c .before .before .if1 .left)) (c .if3 .taken)
+returns-3 c = room-short asWords (c .before .before .before .before .before .before .before .before .before .before .args .identifiers .now) (c .before .before .before .before .before .before .before .before .before .before .args .names .now) _ _ _ _ (sym (c .before .before .before .before .j .given .1) ∙ c .before .before .before .before .before .before .judge .ensures) (not-false _ (c .before .if1 .left)) _ (λ t. let z = ltb-true (length (c .before .before .before .before .before .before .before .before .before .before .args .identifiers .now)) (c .before .before .before .before .j .given .0 .0) t in let x = accepted _ _ _ _ (sym (c .before .before .before .before .j .given .1) ∙ c .before .before .before .before .before .before .judge .ensures) .rows in omega arith) (sym (c .before .before .either .ensures) ∙ c .if2 .taken)
 
 fill-requires : tie.Need-fill-requires
-fill-requires c κs = roomy asWords (c .before .before .before .before .before .before .before .before .before .before .before .before .args .identifiers .now) (c .before .before .before .before .before .before .before .before .before .before .before .before .args .names .now) _ _ _ _ (sym (c .before .before .before .before .before .before .j .given .1) ∙ c .before .before .before .before .before .before .before .before .judge .ensures) (not-false _ (c .before .before .before .before .if1 .left)) (let x = accepted _ _ _ _ (sym (c .before .before .before .before .before .before .j .given .1) ∙ c .before .before .before .before .before .before .before .before .judge .ensures) .rows in omega arith) (omega arith)
+fill-requires c κs = roomy asWords (c .before .before .before .before .before .before .before .before .before .before .before .before .args .identifiers .now) (c .before .before .before .before .before .before .before .before .before .before .before .before .args .names .now) _ _ _ _ (sym (c .before .before .before .before .before .before .j .given .1) ∙ c .before .before .before .before .before .before .before .before .judge .ensures) (not-false _ (c .before .before .before .if1 .left)) (let z = ltb-false (length (c .before .before .before .before .before .before .before .before .before .before .before .before .args .identifiers .now)) (c .before .before .before .before .before .before .j .given .0 .0) ((neither (ltb (length (c .before .before .before .before .before .before .before .before .before .before .before .before .args .identifiers .now)) (c .before .before .before .before .before .before .j .given .0 .0)) (ltb (length (c .before .before .before .before .before .before .before .before .before .before .before .before .args .names .now)) (c .before .before .before .before .before .before .j .given .0 .1 .0)) (sym (c .before .before .before .before .either .ensures) ∙ c .before .before .if2 .left)) .0) in let x = accepted _ _ _ _ (sym (c .before .before .before .before .before .before .j .given .1) ∙ c .before .before .before .before .before .before .before .before .judge .ensures) .rows in omega arith) (ltb-false (length (c .before .before .before .before .before .before .before .before .before .before .before .before .args .names .now)) (c .before .before .before .before .before .before .j .given .0 .1 .0) ((neither (ltb (length (c .before .before .before .before .before .before .before .before .before .before .before .before .args .identifiers .now)) (c .before .before .before .before .before .before .j .given .0 .0)) (ltb (length (c .before .before .before .before .before .before .before .before .before .before .before .before .args .names .now)) (c .before .before .before .before .before .before .j .given .0 .1 .0)) (sym (c .before .before .before .before .either .ensures) ∙ c .before .before .if2 .left)) .1))
 
 same-length : tie.Need-same-length
 same-length c = c .before .before .before .before .fill .kept .1 .0
@@ -42,9 +43,9 @@ same-length c = c .before .before .before .before .fill .kept .1 .0
 same-length-2 : tie.Need-same-length-2
 same-length-2 c = c .before .before .before .before .fill .kept .1 .1 .0
 
-returns-5 : tie.Need-returns-5
+returns-4 : tie.Need-returns-4
 unfolding readCall
-returns-5 c = all-read asWords (c .before .before .before .before .before .before .before .before .before .before .before .before .before .before .before .before .before .args .identifiers .now) (c .before .before .before .before .before .before .before .before .before .before .before .before .before .before .before .before .before .args .names .now) _ _ _ _ (sym (c .before .before .before .before .before .before .before .before .before .before .before .j .given .1) ∙ c .before .before .before .before .before .before .before .before .before .before .before .before .before .judge .ensures) (not-false _ (c .before .before .before .before .before .before .before .before .before .if1 .left)) (let x = accepted _ _ _ _ (sym (c .before .before .before .before .before .before .before .before .before .before .before .j .given .1) ∙ c .before .before .before .before .before .before .before .before .before .before .before .before .before .judge .ensures) .rows in omega arith) (omega arith) _ _ (c .before .before .before .before .fill .ensures)
+returns-4 c = all-read asWords (c .before .before .before .before .before .before .before .before .before .before .before .before .before .before .before .before .before .args .identifiers .now) (c .before .before .before .before .before .before .before .before .before .before .before .before .before .before .before .before .before .args .names .now) _ _ _ _ (sym (c .before .before .before .before .before .before .before .before .before .before .before .j .given .1) ∙ c .before .before .before .before .before .before .before .before .before .before .before .before .before .judge .ensures) (not-false _ (c .before .before .before .before .before .before .before .before .if1 .left)) (let z = ltb-false (length (c .before .before .before .before .before .before .before .before .before .before .before .before .before .before .before .before .before .args .identifiers .now)) (c .before .before .before .before .before .before .before .before .before .before .before .j .given .0 .0) ((neither (ltb (length (c .before .before .before .before .before .before .before .before .before .before .before .before .before .before .before .before .before .args .identifiers .now)) (c .before .before .before .before .before .before .before .before .before .before .before .j .given .0 .0)) (ltb (length (c .before .before .before .before .before .before .before .before .before .before .before .before .before .before .before .before .before .args .names .now)) (c .before .before .before .before .before .before .before .before .before .before .before .j .given .0 .1 .0)) (sym (c .before .before .before .before .before .before .before .before .before .either .ensures) ∙ c .before .before .before .before .before .before .before .if2 .left)) .0) in let x = accepted _ _ _ _ (sym (c .before .before .before .before .before .before .before .before .before .before .before .j .given .1) ∙ c .before .before .before .before .before .before .before .before .before .before .before .before .before .judge .ensures) .rows in omega arith) (ltb-false (length (c .before .before .before .before .before .before .before .before .before .before .before .before .before .before .before .before .before .args .names .now)) (c .before .before .before .before .before .before .before .before .before .before .before .j .given .0 .1 .0) ((neither (ltb (length (c .before .before .before .before .before .before .before .before .before .before .before .before .before .before .before .before .before .args .identifiers .now)) (c .before .before .before .before .before .before .before .before .before .before .before .j .given .0 .0)) (ltb (length (c .before .before .before .before .before .before .before .before .before .before .before .before .before .before .before .before .before .args .names .now)) (c .before .before .before .before .before .before .before .before .before .before .before .j .given .0 .1 .0)) (sym (c .before .before .before .before .before .before .before .before .before .either .ensures) ∙ c .before .before .before .before .before .before .before .if2 .left)) .1)) _ _ (c .before .before .before .before .fill .ensures)
 
 pub read-sheet-spec : {M : Type 1} → statement M
 read-sheet-spec =
@@ -54,10 +55,10 @@ read-sheet-spec =
     enum-known-j
     enum-told
     returns
+    either-requires
     returns-2
     returns-3
-    returns-4
     fill-requires
     same-length
     same-length-2
-    returns-5)
+    returns-4)
