@@ -8,10 +8,8 @@ use native.Mathlib.Omega.{arith}
 use borrow.Author.Tests.{ltb-true, ltb-false}
 use lib.Dec.{leb, ltb}
 use lib.ListN.{length, take, getD, set, length-append, length-set}
-use lib.Seq.{take-suc, take-suc-set, take-append-le, take-all, take-length, set-out}
+use lib.Seq.{take-suc, take-suc-set, take-append-le, take-all, set-out}
 use Rattle.lists.specs.Basics.{every}
-use Rattle.lists.specs.Tests.{and-true, says-same, says-as, says-le}
-use Rattle.lists.specs.Merge.{every-append}
 use Rattle.console.specs.declared.arriving.Arrival.{Arrival}
 use Rattle.console.specs.declared.arriving.Arrival.the-variants.{Bytes, End, Failed}
 use Rattle.sheets.specs.declared.Place.{Place}

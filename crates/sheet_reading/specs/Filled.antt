@@ -1,16 +1,15 @@
 -- What the reading calls give, question by question, and the rows that fill the lent buffers. Assumes nothing.
-use mathlib.Core.Path.{_≡_, refl, ap, ap₂, sym, _∙_, subst}
+use mathlib.Core.Path.{_≡_, refl, ap, ap₂, sym, _∙_}
 use mathlib.Core.Bool.{Bool, true, false, _&&_, _||_}
-use mathlib.Core.List.{List, [], _∷_, _++_, append-assoc, append-nil}
-use Prim.Native.Nat.{ℕ, _+_, _*_, _≤_, _<_, min}
+use mathlib.Core.List.{List, [], _∷_, _++_}
+use Prim.Native.Nat.{ℕ, _+_, _≤_, _<_, min}
 use native.Mathlib.Omega.{arith}
-use borrow.Author.Tests.{ltb-true, ltb-false, le-leb, lt-leb}
+use borrow.Author.Tests.{ltb-true, le-leb, lt-leb}
 use lib.Dec.{T, leb, ltb}
-use lib.ListN.{length, getD, length-append}
-use Rattle.lists.specs.Basics.{if_then_else_, require, every}
+use lib.ListN.{length, length-append}
+use Rattle.lists.specs.Basics.{require, every}
 use Rattle.lists.specs.Choice.{on-yes, on-no}
 use Rattle.lists.specs.Tests.{and-false, true-T}
-use Rattle.lists.specs.Merge.{every-append}
 use Rattle.lists.specs.Splice.{splice}
 use Rattle.protocol.specs.Names.{NO-SHEET, IDENTIFIER-TOO-LARGE, ROOM-SHORT}
 use Rattle.sheet_reading.specs.declared.Judged.{Judged}
@@ -18,15 +17,14 @@ use Rattle.sheet_reading.specs.declared.Judged.the-variants.{None as NoS
 use Rattle.sheet_reading.specs.declared.RowPut.{RowPut}
 use Rattle.sheets.specs.declared.Outcome.the-variants.{Done}
 use Rattle.sheet_reading.specs.declared.RowRead.the-variants.{None as NoRow, Read as RowAt}
-use Rattle.sheets.specs.Bytes.{every-head, every-tail}
 use Rattle.sheets.specs.declared.Place.the-variants.{Start}
 use Rattle.sheets.specs.Reader.{Said, nothing, lists, fresh, reading, ending, endedAs}
 use Rattle.sheets.specs.Calls.{laid, isWord, SheetRead, unread, readInto}
 use Rattle.sheets.specs.Words.{word, words, words-append, words-same, cap-word, every-one}
 use Rattle.sheets.specs.Laying.{laid-none, laid-more}
-use Rattle.sheets.specs.Sound.{silent, same-lists}
+use Rattle.sheets.specs.Sound.{same-lists}
 use Rattle.sheet_reading.specs.Onward.{onward, onward-end, onward-grows}
-use Rattle.sheet_reading.specs.Judged.{capped, RowIs, RowSaid}
+use Rattle.sheet_reading.specs.Judged.{RowIs}
 use Rattle.sheet_reading.specs.Put.{Readable, RowPutIs}
 
 -- What a text is, before the outputs are looked at.
@@ -212,16 +210,6 @@ module _ (form : List ℕ → List ℕ) (none : form [] ≡ []) (join : (x y : L
           let g = onward-grows t Start (f .said ++ (r .name ++ (0 ∷ []))) numbers′ (r .number) (p .end) (room .0) (room .1) (sym row-said ∙ room .2) .1 in
           let l = length-one (f .numbers) (r .number) in
           let c = f .count in
-          omega arith
-
-      pub at-small : p .at ≤ length names₀
-      at-small =
-          let g = onward-grows t Start (f .said ++ (r .name ++ (0 ∷ []))) numbers′ (r .number) (p .end) (room .0) (room .1) (sym row-said ∙ room .2) .0 in
-          let l = length-append (f .said) (r .name ++ (0 ∷ [])) in
-          let o = length-one (r .name) 0 in
-          let b = r .behind in
-          let h = f .here in
-          let k = room .4 in
           omega arith
 
       word-kept : min (p .value) 4294967295 ≡ word (r .number)

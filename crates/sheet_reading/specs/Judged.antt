@@ -2,7 +2,7 @@
 use mathlib.Core.Path.{_≡_, refl, ap, sym, _∙_, subst}
 use mathlib.Core.Logic.{_≢_}
 use mathlib.Core.Bool.{Bool, true, false}
-use mathlib.Core.List.{List, [], _∷_, _++_, append-assoc, append-nil}
+use mathlib.Core.List.{List, [], _∷_, _++_, append-assoc}
 use Prim.Native.Nat.{ℕ, _+_, _-_, _≤_, _<_, min}
 use native.Mathlib.Omega.{arith}
 use borrow.Author.Tests.{ltb-true, ltb-false, eqb-true, eqb-false}
@@ -23,7 +23,7 @@ use Rattle.sheets.specs.Grammar.{quote, comma, cr, lf, isDigit, worth}
 use Rattle.sheet_reading.specs.Kinds.{plainByte, quotedByte}
 use Rattle.sheets.specs.declared.Place.{Place}
 use Rattle.sheets.specs.declared.Place.the-variants.{Start, Plain, Opened, Quoted, Closed, Number, Digits, NumberOpened, NumberQuoted, NumberClosed, Return}
-use Rattle.sheets.specs.Reader.{next, Said, nothing, ending, endedAs}
+use Rattle.sheets.specs.Reader.{nothing, ending, endedAs}
 use Rattle.sheet_reading.specs.Runs.{between, RunTo, length-between, between-none, between-both, run-first, worth-append, worth-grows, worth-ten}
 use Rattle.sheet_reading.specs.Nexts
 use Rattle.sheet_reading.specs.Onward.{onward, onward-end, onward-wrong, onward-opened, onward-closed, onward-quoted, onward-number, onward-number-opened, onward-number-closed, onward-return, onward-start, onward-as, plain-over, quoted-over, digits-on, number-quoted-on}

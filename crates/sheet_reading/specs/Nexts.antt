@@ -9,7 +9,6 @@ use Rattle.lists.specs.Tests.{true-T}
 use Rattle.sheets.specs.Grammar.{quote, comma, cr, lf, bare, nonZero, isDigit}
 use Rattle.sheet_reading.specs.Kinds.{plainByte, quotedByte}
 use Rattle.sheets.specs.Reader
-use Rattle.sheets.specs.declared.Place.{Place}
 use Rattle.sheets.specs.declared.Place.the-variants.{Start, Plain, Opened, Quoted, Closed, Number, Digits, NumberOpened, NumberQuoted, NumberClosed, Return, Wrong}
 use Rattle.sheets.specs.Reader.{next}
 use Rattle.sheets.specs.Complete.{marks, number-marks, number-next, digits-next, opened-next, number-quoted-next}

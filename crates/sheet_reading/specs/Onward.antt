@@ -1,18 +1,16 @@
 -- What a text says from a place on: a reader there, and what follows for it from the next byte, or from a run of bytes. The functions that
 -- read are proved by these laws. Assumes nothing.
 use mathlib.Core.Path.{_≡_, refl, ap, sym, _∙_}
-use mathlib.Core.Logic.{_⊎_, inl, inr}
-use mathlib.Core.Bool.{Bool, true, false, not, _&&_}
+use mathlib.Core.Bool.{Bool, true, not}
 use mathlib.Core.List.{List, [], _∷_, _++_, append-assoc, append-nil}
-use Prim.Native.Nat.{ℕ, suc, _+_, _-_, _*_, _≤_, _<_}
+use Prim.Native.Nat.{ℕ, _+_, _-_, _*_, _≤_, _<_}
 use native.Mathlib.Numerals.{add-one}
 use native.Mathlib.Omega.{arith}
-use lib.Dec.{T, eqb}
+use lib.Dec.{eqb}
 use lib.ListN.{length, drop, getD, length-append, drop-of-length-le}
 use lib.Seq.{drop-cons}
-use Rattle.lists.specs.Basics.{if_then_else_, every}
-use Rattle.lists.specs.Tests.{true-T}
-use Rattle.sheets.specs.Grammar.{quote, comma, cr, lf, bare, nonZero, isDigit, worth}
+use Rattle.lists.specs.Basics.{every}
+use Rattle.sheets.specs.Grammar.{quote, bare, nonZero, isDigit, worth}
 use Rattle.sheets.specs.Bytes.{every-head, every-tail, and-first, and-second, not-yes}
 use Rattle.sheet_reading.specs.Kinds.{plainByte, quotedByte}
 use Rattle.sheets.specs.Reader
@@ -23,7 +21,7 @@ use Rattle.sheets.specs.declared.Ending.{Ending}
 use Rattle.sheets.specs.declared.Ending.the-variants.{Within, BehindRows, BehindNumber}
 use Rattle.sheets.specs.Reader.{Reader, next, effect, said, told, valued, moved, fed, run, Said, nothing, lists, ending, endedAs, ended}
 use Rattle.sheets.specs.Complete.{standing, run-append, to-place, to-opened, to-closed, to-start, to-number, to-numberopened, to-numberclosed, to-return, in-next, quoted-next, digits-next, number-quoted-next}
-use Rattle.sheet_reading.specs.Runs.{between, RunTo, rest-between}
+use Rattle.sheet_reading.specs.Runs.{between, rest-between}
 
 unfoldable pub onward : List ℕ → Place → List ℕ → List ℕ → ℕ → ℕ → Said
 onward t p n c v i = ended (run (standing p n c v) (drop i t))

@@ -1,5 +1,5 @@
 -- What the functions that write a name find, in a text that is known to be a sheet, and why there is room. Assumes nothing.
-use mathlib.Core.Path.{_≡_, refl, ap, sym, _∙_, subst}
+use mathlib.Core.Path.{_≡_, refl, ap, sym, _∙_}
 use mathlib.Core.Logic.{_≢_}
 use mathlib.Core.Bool.{Bool, true, false}
 use mathlib.Core.List.{List, [], _∷_, _++_, append-assoc, append-nil}
@@ -20,9 +20,9 @@ use Rattle.sheets.specs.declared.Place.{Place}
 use Rattle.sheets.specs.declared.Place.the-variants.{Start, Plain, Quoted, Closed, Number, NumberOpened, Wrong}
 use Rattle.sheets.specs.declared.Effect.the-variants.{Letter}
 use Rattle.sheets.specs.declared.Ending.the-variants.{Within}
-use Rattle.sheets.specs.Reader.{next, effect, Said, nothing, lists, ending, endedAs}
+use Rattle.sheets.specs.Reader.{next, effect, nothing, lists, ending, endedAs}
 use Rattle.sheets.specs.Sound.{silent}
-use Rattle.sheet_reading.specs.Runs.{between, between-none, between-more, length-between, every-empty, every-between}
+use Rattle.sheet_reading.specs.Runs.{between, between-none, between-more, length-between}
 use Rattle.sheet_reading.specs.Nexts
 use Rattle.sheet_reading.specs.Onward.{onward, onward-end, onward-wrong, onward-closed, onward-letter, onward-quoted, onward-number, onward-as, names-over, plain-stays, quoted-stays, plain-over, quoted-over, onward-grows}
 use Rattle.sheets.specs.Complete.{standing}

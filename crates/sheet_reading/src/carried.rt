@@ -13,7 +13,7 @@ ghost use lib.ListN.{length};
 ghost use Rattle.lists.specs.Splice.{splice};
 ghost use Rattle.protocol.specs.Bytes.{wordBytes, bytesOf};
 ghost use Rattle.sheets.specs.Reader.{reading};
-ghost use Rattle.sheets.specs.Calls.{laid, readBytesCall};
+ghost use Rattle.sheets.specs.Calls.{readBytesCall};
 ghost use Rattle.sheet_reading.specs.Filled.{Roomy, AllFilled};
 
 fn low_byte(x: u32) -> u8

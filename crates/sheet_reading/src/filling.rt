@@ -7,7 +7,6 @@ use protocol::refusals;
 use sheets::Outcome;
 use sheets::word_of;
 ghost use mathlib.Core.Path.{_≡_};
-ghost use Prim.Native.Nat.{min};
 ghost use lib.ListN.{length};
 ghost use Rattle.sheets.specs.Reader.{reading};
 ghost use Rattle.sheets.specs.Calls.{asWords, readCall};

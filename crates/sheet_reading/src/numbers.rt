@@ -6,7 +6,7 @@ use sheets::QUOTE;
 use sheets::digit_value;
 use sheets::is_digit;
 ghost use mathlib.Core.Path.{_≡_};
-ghost use Prim.Native.Nat.{_-_, _≤_, _<_};
+ghost use Prim.Native.Nat.{_≤_, _<_};
 ghost use lib.ListN.{length};
 ghost use Rattle.sheets.specs.Grammar.{isDigit, worth};
 ghost use Rattle.sheet_reading.specs.Runs.{between, RunTo};

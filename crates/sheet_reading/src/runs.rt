@@ -2,7 +2,6 @@
 use crate::bytes::wide;
 use sheets::is_digit;
 ghost use mathlib.Core.Path.{_≡_};
-ghost use mathlib.Core.Bool.{true};
 ghost use Prim.Native.Nat.{_≤_};
 ghost use lib.ListN.{length};
 ghost use Rattle.lists.specs.Basics.{table};

@@ -4,7 +4,6 @@ use lists::both;
 use sheets::QUOTE;
 use sheets::bare;
 ghost use mathlib.Core.Path.{_≡_};
-ghost use lib.ListN.{length};
 ghost use Rattle.sheets.specs.Writer.{firstName, zeros as zerosSpec, endsWell, namesFor as namesForSpec};
 ghost use Rattle.sheet_writing.specs.Scanning.{one, scanned};
 

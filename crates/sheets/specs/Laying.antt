@@ -44,10 +44,6 @@ laid-more w l v a e =
     ∙ ap (λ k. l ++ (v ++ k)) (drop-drop (length v) (length l) w ∙ ap (λ n. drop n w) (sym (length-append l v)))
     ∙ sym (append-assoc l v (drop (length (l ++ v)) w))
 
-pub length-laid : (w l : List ℕ) → length l ≤ length w → length (laid w l) ≡ length w
-unfolding laid
-length-laid w l h = simp (length-append, length-drop) (omega arith)
-
 -- the front of a buffer is a splice at 0
 pub laid-splice : (w l : List ℕ) → splice w 0 l ≡ laid w l
 unfolding splice laid

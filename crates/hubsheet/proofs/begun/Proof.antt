@@ -1,7 +1,6 @@
 -- `begun`: nothing was read. Assumes nothing.
 use native.Mathlib.Omega.{arith}
 use Rattle.hubsheet.specs.Held.{holds-none}
-use borrow.Author.Needs.{needs}
 use Rattle.hubsheet.proofs.begun.Statement.{statement}
 use Rattle.hubsheet.proofs.begun.Tie as tie
 

@@ -1,12 +1,12 @@
 -- `put_rows`: 20, 21, or the frame. Assumes nothing.
-use mathlib.Core.Path.{_≡_, refl, sym, ap, _∙_, subst}
+use mathlib.Core.Path.{sym}
 use native.Mathlib.Omega.{arith}
 use borrow.Author.Tests.{le-leb, lt-leb, not-true, not-false}
-use lib.ListN.{length, take}
+use lib.ListN.{take}
 use lib.Seq.{length-take-le}
 use Rattle.lists.specs.Basics.{if_then_else_, require}
 use Rattle.protocol.specs.Frames.{refusalText, print2}
-use Rattle.hubsheet.specs.Line.{refusalLine, foundingLine, rowsLine, founding-small}
+use Rattle.hubsheet.specs.Line.{refusalLine, rowsLine, founding-small}
 use borrow.Author.Needs.{needs}
 use Rattle.hubsheet.proofs.frame.put_rows.Statement.{statement}
 use Rattle.hubsheet.proofs.frame.put_rows.Tie as tie

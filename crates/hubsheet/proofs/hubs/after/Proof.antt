@@ -1,5 +1,4 @@
 -- `after`: by the effect. Assumes nothing.
-use mathlib.Core.Path.{sym, ap}
 use Rattle.hubsheet.specs.Held.{afterSpec}
 use borrow.Author.Needs.{needs}
 use Rattle.hubsheet.proofs.hubs.after.Statement.{statement}

@@ -1,6 +1,5 @@
 -- `keep`: a place is set, if it is there. Assumes nothing.
 use mathlib.Core.Path.{sym, ap}
-use native.Mathlib.Omega.{arith}
 use lib.ListN.{set}
 use lib.Seq.{set-out}
 use borrow.Author.Needs.{needs}

@@ -1,5 +1,5 @@
 -- `finish_sheet` hands back the number, and the counts of a sheet. Assumes nothing.
-use mathlib.Core.Path.{refl, sym, ap, _∙_}
+use mathlib.Core.Path.{sym, ap, _∙_}
 use Rattle.ring_c.specs.Told.{codeOf, countWords, countsAfter}
 use borrow.Author.Needs.{needs}
 use Rattle.ring_c.proofs.results.finish_sheet.Statement.{statement}

@@ -1,7 +1,7 @@
 -- `fill_bytes`: the rows up to i are written. Assumes nothing.
 use mathlib.Core.Path.{_≡_, refl, sym, ap, _∙_, subst}
-use mathlib.Core.List.{[], _∷_}
-use Prim.Native.Nat.{_+_, _-_, _*_}
+use mathlib.Core.List.{[]}
+use Prim.Native.Nat.{_-_, _*_}
 use native.Mathlib.Omega.{arith}
 use lib.ListN.{length}
 use Rattle.lists.specs.Splice.{splice}

@@ -1,12 +1,10 @@
 -- `copy_quoted`: the bytes up to the first quote, and the rest. Assumes nothing.
-use mathlib.Core.Path.{_≡_, refl, sym, _∙_, subst}
-use Prim.Native.Nat.{_+_, _-_}
+use mathlib.Core.Path.{refl, sym, _∙_, subst}
 use native.Mathlib.Omega.{arith}
 use lib.ListN.{length}
 use Rattle.lists.specs.Basics.{if_then_else_}
 use Rattle.sheets.specs.declared.Place.the-variants.{Quoted}
 use Rattle.sheet_reading.specs.Put.{Readable, placeFor, testFor, quoted-copies, quotes-readable, quotes-there, quotes-put}
-use borrow.Author.Needs.{needs}
 use Rattle.sheet_reading.proofs.copying.copy_quoted.Statement.{statement}
 use Rattle.sheet_reading.proofs.copying.copy_quoted.Tie as tie
 

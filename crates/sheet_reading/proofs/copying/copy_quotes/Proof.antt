@@ -1,12 +1,11 @@
 -- `copy_quotes`: the name up to the quote at i is written. Assumes nothing.
-use mathlib.Core.Path.{_≡_, refl, ap, sym, _∙_, subst}
-use Prim.Native.Nat.{_+_, _-_, _≤_}
+use mathlib.Core.Path.{_≡_, refl, sym, _∙_, subst}
+use Prim.Native.Nat.{_+_, _-_}
 use native.Mathlib.Omega.{arith}
 use lib.ListN.{length, length-set}
 use Rattle.lists.specs.Basics.{if_then_else_}
 use Rattle.sheets.specs.declared.Place.the-variants.{Quoted}
 use Rattle.sheet_reading.specs.Put.{Readable, placeFor, testFor, quoted-copies, Copying, copying-none, quote-goes, quote-room, quote-readable, copying-more, copying-small, last-room, quoted-put}
-use borrow.Author.Needs.{needs}
 use Rattle.sheet_reading.proofs.copying.copy_quotes.Statement.{statement}
 use Rattle.sheet_reading.proofs.copying.copy_quotes.Tie as tie
 

@@ -1,5 +1,5 @@
 -- `copy_row`: the name is copied; number and end are there. Assumes nothing.
-use mathlib.Core.Path.{subst, _∙_}
+use mathlib.Core.Path.{subst}
 use lib.ListN.{length}
 use Rattle.sheet_reading.specs.Judged.{NumberIs, EndIs}
 use Rattle.sheet_reading.specs.Put.{number-there, end-there, row-put}

@@ -1,7 +1,7 @@
 -- `fill`: the rows up to i are written. Assumes nothing.
 use mathlib.Core.Path.{_≡_, refl, sym, ap, _∙_, subst}
 use mathlib.Core.List.{[], _∷_}
-use Prim.Native.Nat.{_+_, _-_}
+use Prim.Native.Nat.{_-_}
 use native.Mathlib.Omega.{arith}
 use lib.ListN.{length, length-set}
 use Rattle.lists.specs.Splice.{splice}
@@ -9,8 +9,8 @@ use Rattle.sheets.specs.declared.Place.the-variants.{Start}
 use Rattle.sheets.specs.Calls.{asWords}
 use Rattle.sheets.specs.Laying.{splice-one}
 use Rattle.sheet_reading.specs.Put.{Readable}
-use Rattle.sheets.specs.Words.{words, length-words}
-use Rattle.sheet_reading.specs.Filled.{Filled, filled-none, fill-readable, row-there, at-small, filled-row, filled-all}
+use Rattle.sheets.specs.Words.{length-words}
+use Rattle.sheet_reading.specs.Filled.{Filled, filled-none, fill-readable, row-there, filled-row, filled-all}
 use borrow.Author.Needs.{needs}
 use Rattle.sheet_reading.proofs.filling.fill.Statement.{statement}
 use Rattle.sheet_reading.proofs.filling.fill.Tie as tie

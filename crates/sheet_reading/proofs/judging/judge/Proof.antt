@@ -1,5 +1,5 @@
 -- `judge`: the rows up to i are counted. Assumes nothing.
-use mathlib.Core.Path.{_≡_, subst, sym, _∙_}
+use mathlib.Core.Path.{subst, sym}
 use Prim.Native.Nat.{_-_}
 use native.Mathlib.Omega.{arith}
 use lib.ListN.{length}

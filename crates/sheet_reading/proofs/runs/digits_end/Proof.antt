@@ -4,7 +4,7 @@ use mathlib.Core.Bool.{true}
 use Prim.Native.Nat.{_-_, _≤_}
 use native.Mathlib.Omega.{arith}
 use borrow.Author.Tests.{not-true, not-false}
-use lib.ListN.{length, getD}
+use lib.ListN.{length}
 use Rattle.lists.specs.Basics.{every}
 use Rattle.sheets.specs.Grammar.{isDigit}
 use Rattle.sheet_reading.specs.Runs.{between, every-empty, every-between}

@@ -3,7 +3,7 @@ use mathlib.Core.Path.{_≡_, sym, _∙_, subst}
 use mathlib.Core.Bool.{true, false}
 use Prim.Native.Nat.{_-_, _≤_}
 use native.Mathlib.Omega.{arith}
-use lib.ListN.{length, getD}
+use lib.ListN.{length}
 use Rattle.lists.specs.Basics.{every}
 use Rattle.sheet_reading.specs.Kinds.{plainByte, kind-plain, kind-stop, by-table}
 use Rattle.sheet_reading.specs.Runs.{between, every-empty, every-between}
