@@ -6,4 +6,6 @@ mod reading;
 
 pub use calls::answer_line;
 pub use calls::fresh_ring;
+pub use printing::put2;
+pub use printing::put8;
 pub use reading::decode;

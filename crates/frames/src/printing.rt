@@ -20,24 +20,24 @@ fn digit_of(v: u32) -> u8
 }
 
 // The last 2 digits of a number, from a place of the line on.
-fn put2(out: &mut [u8; 25], at: usize, v: u32)
-    requires { ⌜ at + 2 ≤ 25 ⌝ }
+pub fn put2(out: &mut [u8], at: usize, v: u32)
+    requires { ⌜ at + 2 ≤ length (now out) ⌝ }
     ensures { λ _. ⌜ now (out .exit) ≡ sets (now (out .entry)) at (print2 v) ⌝ }
 {
     out[at] = digit_of(v / 16);
     out[at + 1] = digit_of(v);
 }
 
-fn put4(out: &mut [u8; 25], at: usize, v: u32)
-    requires { ⌜ at + 4 ≤ 25 ⌝ }
+fn put4(out: &mut [u8], at: usize, v: u32)
+    requires { ⌜ at + 4 ≤ length (now out) ⌝ }
     ensures { λ _. ⌜ now (out .exit) ≡ sets (now (out .entry)) at (print4 v) ⌝ }
 {
     put2(out, at, v / 256);
     put2(out, at + 2, v);
 }
 
-fn put8(out: &mut [u8; 25], at: usize, v: u32)
-    requires { ⌜ at + 8 ≤ 25 ⌝ }
+pub fn put8(out: &mut [u8], at: usize, v: u32)
+    requires { ⌜ at + 8 ≤ length (now out) ⌝ }
     ensures { λ _. ⌜ now (out .exit) ≡ sets (now (out .entry)) at (print8 v) ⌝ }
 {
     put4(out, at, v / 65536);

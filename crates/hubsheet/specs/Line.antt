@@ -8,7 +8,7 @@ use native.Mathlib.Omega.{arith}
 use borrow.Author.Tests.{leb-true, leb-false, lt-leb}
 use lib.Dec.{leb}
 use lib.ListN.{length, take, getD, set, length-append}
-use lib.Seq.{take-suc, take-length, take-all, length-take-le}
+use lib.Seq.{sets, sets-eq, take-suc, take-length, take-all, length-take-le}
 use Rattle.lists.specs.Basics.{if_then_else_, require, every}
 use Rattle.lists.specs.Choice.{on-yes, on-no}
 use Rattle.lists.specs.Splice.{splice}
@@ -58,6 +58,11 @@ pub length-eights : (l : List ℕ) → length (eights l) ≡ 8 * length l
 unfolding eights
 length-eights [] = refl
 length-eights (v ∷ l) = let e = length-append (print8 v) (eights l) in let f = length-print8 v in let g = length-eights l in omega arith
+
+-- digits that are put into a line, as a piece of it
+pub put-piece : (w vs : List ℕ) (at : ℕ) → at + length vs ≤ length w → sets w at vs ≡ splice w at vs
+unfolding splice
+put-piece w vs at h = sets-eq vs w at h
 
 -- eight digits more
 pub eights-put : (w u l : List ℕ) (i : ℕ) → i < length l → 2 + 8 * length l ≤ length w → u ≡ splice w 2 (eights (take i l)) → splice u (2 + 8 * i) (print8 (getD l i 0)) ≡ splice w 2 (eights (take (i + 1) l))

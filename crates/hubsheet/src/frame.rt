@@ -3,53 +3,17 @@ use crate::hubs::Hubs;
 use crate::hubs::counted;
 use crate::hubs::keep;
 use crate::places::ending;
+use frames::put2;
+use frames::put8;
 use lists::both;
 use protocol::refusals;
 use sheets::Ending;
 use sheets::put_byte;
 ghost use mathlib.Core.Path.{_≡_};
-ghost use mathlib.Core.List.{[]};
-ghost use Prim.Native.Nat.{_+_, _*_, _≤_};
+ghost use Prim.Native.Nat.{_≤_};
 ghost use lib.ListN.{length};
-ghost use Rattle.lists.specs.Splice.{splice};
-ghost use Rattle.protocol.specs.Frames.{digitOf, print2, print4, print8};
 ghost use Rattle.sheets.specs.Calls.{laid};
 ghost use Rattle.hubsheet.specs.Line.{refusalLine, foundingLine, rowsLine, Printed};
-
-// The last digit of a number, upper case.
-fn digit_of(v: u32) -> u8
-    ensures { λ r. ⌜ r ≡ digitOf v ⌝ }
-{
-    let d = v % 16;
-    if d < 10 {
-        return (48 + d) as u8;
-    }
-    (55 + d) as u8
-}
-
-fn put2(out: &mut [u8], at: usize, v: u32)
-    requires { ⌜ at + 2 ≤ length (now out) ⌝ }
-    ensures { λ _. ⌜ now (out .exit) ≡ splice (now (out .entry)) at (print2 v) ⌝ }
-{
-    put_byte(out, at, digit_of(v / 16));
-    put_byte(out, at + 1, digit_of(v));
-}
-
-fn put4(out: &mut [u8], at: usize, v: u32)
-    requires { ⌜ at + 4 ≤ length (now out) ⌝ }
-    ensures { λ _. ⌜ now (out .exit) ≡ splice (now (out .entry)) at (print4 v) ⌝ }
-{
-    put2(out, at, v / 256);
-    put2(out, at + 2, v);
-}
-
-fn put8(out: &mut [u8], at: usize, v: u32)
-    requires { ⌜ at + 8 ≤ length (now out) ⌝ }
-    ensures { λ _. ⌜ now (out .exit) ≡ splice (now (out .entry)) at (print8 v) ⌝ }
-{
-    put4(out, at, v / 65536);
-    put4(out, at + 4, v);
-}
 
 // EE and the number.
 fn put_refusal(out: &mut [u8], number: u32) -> usize

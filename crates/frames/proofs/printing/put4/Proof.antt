@@ -13,8 +13,11 @@ add-put2 c = search needs
 put2-requires-2 : tie.Need-put2-requires-2
 put2-requires-2 c κs = search needs
 
+same-length : tie.Need-same-length
+same-length c = search needs
+
 returns : tie.Need-returns
-returns c = simp (c .put22 .ensures, c .before .before .put2 .ensures) (put-four (c .before .before .before .before .args .out .now) (c .before .before .before .before .args .at) (c .before .before .before .before .args .v))
+returns c = simp (c .before .before .put22 .ensures, c .before .before .before .before .before .before .put2 .ensures) (put-four (c .before .before .before .before .before .before .before .before .before .args .out .now) (c .before .before .before .before .before .before .before .before .before .args .at) (c .before .before .before .before .before .before .before .before .before .args .v))
 
 pub put4-spec : {M : Type 1} → statement M
-put4-spec = tie.close (tie.spec put2-requires add-put2 put2-requires-2 returns)
+put4-spec = tie.close (tie.spec put2-requires add-put2 put2-requires-2 same-length returns)

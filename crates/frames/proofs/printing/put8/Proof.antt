@@ -13,8 +13,11 @@ add-put4 c = search needs
 put4-requires-2 : tie.Need-put4-requires-2
 put4-requires-2 c κs = search needs
 
+same-length : tie.Need-same-length
+same-length c = search needs
+
 returns : tie.Need-returns
-returns c = simp (c .put42 .ensures, c .before .before .put4 .ensures) (put-eight (c .before .before .before .before .args .out .now) (c .before .before .before .before .args .at) (c .before .before .before .before .args .v))
+returns c = simp (c .before .before .put42 .ensures, c .before .before .before .before .before .before .put4 .ensures) (put-eight (c .before .before .before .before .before .before .before .before .before .args .out .now) (c .before .before .before .before .before .before .before .before .before .args .at) (c .before .before .before .before .before .before .before .before .before .args .v))
 
 pub put8-spec : {M : Type 1} → statement M
-put8-spec = tie.close (tie.spec put4-requires add-put4 put4-requires-2 returns)
+put8-spec = tie.close (tie.spec put4-requires add-put4 put4-requires-2 same-length returns)

@@ -2,9 +2,10 @@
 use mathlib.Core.Path.{_≡_, refl, _∙_}
 use native.Mathlib.Omega.{arith}
 use Rattle.lists.specs.Splice.{splice}
+use Rattle.protocol.specs.Frames.{print2}
 use Prim.Native.Nat.{_≤_, _-_}
-use lib.ListN.{length, take}
-use Rattle.hubsheet.specs.Line.{eights, eights-put, founding-length, founding-put}
+use lib.ListN.{length, take, getD}
+use Rattle.hubsheet.specs.Line.{put-piece, length-print2, length-print8, eights, eights-put, founding-length, founding-put}
 use Rattle.sheets.specs.Laying.{splice-none}
 use borrow.Author.Needs.{needs}
 use Rattle.hubsheet.proofs.frame.put_founding.Statement.{statement}
@@ -49,7 +50,7 @@ loop-again c =
     let l = c .before .before .before .before .before .before .loop in
     let a = c .before .before .before .before .before .before .before .before .before .before .before .before .before .args in
     let q = c .before .before .before .before .before .before .before .before .before .put2 .kept .0 in
-    (search needs, c .before .before .put8 .ensures ∙ eights-put _ (l .out) (a .identifiers .now) (l .i) (omega arith) (omega arith) (l .inv .1), c .before .before .put8 .kept .0 ∙ l .inv .2)
+    (search needs, c .before .before .put8 .ensures ∙ put-piece (l .out) _ _ (let e = length-print8 (getD (a .identifiers .now) (l .i) 0) in let k = l .inv .2 in omega arith) ∙ eights-put _ (l .out) (a .identifiers .now) (l .i) (omega arith) (omega arith) (l .inv .1), c .before .before .put8 .kept .0 ∙ l .inv .2)
 
 mul-end : tie.Need-mul-end Inv-loop μ-loop
 mul-end c = search needs
@@ -71,7 +72,7 @@ returns c =
     let l = c .before .before .before .before .before .loop in
     let a = c .before .before .before .before .before .before .before .before .before .before .before .before .args in
     let e = founding-length (a .identifiers .now) in
-    (omega arith, founding-put (a .out .now) _ (l .out) _ (a .identifiers .now) (l .i) (omega arith) (omega arith) (c .before .before .before .before .before .before .before .before .put2 .ensures) (l .inv .1) (c .before .before .put-byte .ensures .1))
+    (omega arith, founding-put (a .out .now) _ (l .out) _ (a .identifiers .now) (l .i) (omega arith) (omega arith) (c .before .before .before .before .before .before .before .before .put2 .ensures ∙ put-piece (a .out .now) (print2 240) 0 (let p = length-print2 240 in omega arith)) (l .inv .1) (c .before .before .put-byte .ensures .1))
 
 pub put-founding-spec : {M : Type 1} → statement M
 put-founding-spec =

@@ -3,7 +3,7 @@ use mathlib.Core.Path.{refl, _∙_}
 use mathlib.Core.List.{[], _∷_}
 use native.Mathlib.Omega.{arith}
 use Rattle.protocol.specs.Frames.{print2, refusalText}
-use Rattle.hubsheet.specs.Line.{refusalLine}
+use Rattle.hubsheet.specs.Line.{refusalLine, put-piece}
 use Rattle.sheets.specs.Laying.{laid-splice, three-pieces}
 use borrow.Author.Needs.{needs}
 use Rattle.hubsheet.proofs.frame.put_refusal.Statement.{statement}
@@ -25,7 +25,7 @@ returns : tie.Need-returns
 unfolding refusalLine refusalText print2
 returns c =
     let a = c .before .before .before .before .before .before .before .before .before .before .before .before .before .args in
-    (refl, three-pieces (a .out .now) 0 (print2 238) (print2 (a .number)) (10 ∷ []) _ _ _ 2 4 (c .before .before .before .before .before .before .before .before .before .before .put2 .ensures) refl (c .before .before .before .before .before .before .put22 .ensures) refl (c .before .before .put-byte .ensures .1) (omega arith) ∙ laid-splice (a .out .now) (refusalLine (a .number)))
+    (refl, three-pieces (a .out .now) 0 (print2 238) (print2 (a .number)) (10 ∷ []) _ _ _ 2 4 (c .before .before .before .before .before .before .before .before .before .before .put2 .ensures ∙ put-piece (a .out .now) (print2 238) 0 (omega arith)) refl (c .before .before .before .before .before .before .put22 .ensures ∙ put-piece _ (print2 (a .number)) 2 (let k = c .before .before .before .before .before .before .before .before .before .before .put2 .kept .0 in omega arith)) refl (c .before .before .put-byte .ensures .1) (omega arith) ∙ laid-splice (a .out .now) (refusalLine (a .number)))
 
 pub put-refusal-spec : {M : Type 1} → statement M
 put-refusal-spec =
