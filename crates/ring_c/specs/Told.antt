@@ -14,6 +14,7 @@ use Rattle.sheets.specs.declared.Outcome.{Outcome}
 use Rattle.sheets.specs.declared.Outcome.the-variants.{Refused, Done}
 use Rattle.sheets.specs.Calls.{SheetRead, SheetWritten, readBytesCall, writeBytesCall}
 
+-- The number returned: the refusal, 0 for none.
 unfoldable pub codeOf : Outcome → ℕ
 codeOf (Refused k) = k
 codeOf (Done rows bytes) = 0
@@ -22,10 +23,12 @@ codeOf (Done rows bytes) = 0
 unfoldable pub countWords : ℕ → ℕ → List ℕ
 countWords rows bytes = rows % 4294967296 ∷ rows / 4294967296 ∷ bytes % 4294967296 ∷ bytes / 4294967296 ∷ []
 
+-- The lent counts: written where the call is accepted, and then only their first 16 bytes.
 unfoldable pub countsAfter : List ℕ → Outcome → List ℕ
 countsAfter counts (Refused k) = counts
 countsAfter counts (Done rows bytes) = over counts (countWords rows bytes)
 
+-- What the reading call leaves.
 pub record ReadTold : Type 0 where
   pub code : ℕ
   pub identifiers : List ℕ
@@ -39,6 +42,7 @@ unfoldable pub sheetRead : List ℕ → List ℕ → List ℕ → List ℕ → R
 sheetRead text ids names counts =
     require (leb 16 (length counts)) (record { code = OUTPUT-SHORT; identifiers = ids; names = names; counts = counts }) (toldRead counts (readBytesCall text ids names))
 
+-- What the writing call leaves.
 pub record WriteTold : Type 0 where
   pub code : ℕ
   pub text : List ℕ

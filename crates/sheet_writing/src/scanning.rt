@@ -1,4 +1,4 @@
-// The names to be written: are they one zero-ended name for each identifier, and what is in each?
+// The names to be written: is there one for each identifier, and what is in it?
 use crate::Scan;
 use lists::both;
 use sheets::QUOTE;

@@ -1,4 +1,4 @@
--- Rows and the buffers in which they lie: names that are one zero-ended name for each identifier are rows, and rows are such names.
+-- Rows and the buffers in which they lie: names that pass the test of the writing call are rows, and rows are such names.
 -- Assumes nothing.
 use mathlib.Core.Path.{_≡_, refl, ap, ap₂, sym, _∙_}
 use mathlib.Core.Bool.{Bool, true, false}

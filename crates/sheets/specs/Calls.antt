@@ -17,6 +17,7 @@ use Rattle.sheets.specs.Writer.{namesFor, rowsIn, writeSheet}
 unfoldable pub laid : List ℕ → List ℕ → List ℕ
 laid w l = l ++ drop (length l) w
 
+-- An identifier is a word of 32 bits.
 unfoldable pub isWord : ℕ → Bool
 isWord v = leb v 4294967295
 
@@ -26,10 +27,12 @@ pub record SheetRead : Type 0 where
   pub identifiers : List ℕ
   pub names : List ℕ
 
+-- A refusal leaves both as they were.
 abbrev pub unread : List ℕ → List ℕ → ℕ → SheetRead
 unread ids names k = record { outcome = Refused k; identifiers = ids; names = names }
 
--- The identifiers lie there as words, or as bytes.
+-- Reading, by what the text says (Reader.antt): is it a sheet, do all identifiers fit, are both outputs long enough? The identifiers lie there as
+-- words, or as bytes.
 unfoldable pub readInto : (List ℕ → List ℕ) → List ℕ → List ℕ → Said → SheetRead
 readInto form ids names nothing = unread ids names NO-SHEET
 readInto form ids names (lists n i) =
@@ -37,6 +40,7 @@ readInto form ids names (lists n i) =
     (require (leb (length (form i)) (length ids) && leb (length n) (length names)) (unread ids names ROOM-SHORT)
     (record { outcome = Done (length i) (length n); identifiers = laid ids (form i); names = laid names n }))
 
+-- On words.
 abbrev pub asWords : List ℕ → List ℕ
 asWords i = i
 
@@ -52,9 +56,11 @@ pub record SheetWritten : Type 0 where
   pub outcome : Outcome
   pub text : List ℕ
 
+-- The text for the rows in the lent names and identifiers.
 unfoldable pub sheetText : List ℕ → List ℕ → List ℕ
 sheetText names ids = writeSheet (rowsIn names ids)
 
+-- Writing: are the names one for each identifier, is the text long enough?
 unfoldable pub writeCall : List ℕ → List ℕ → List ℕ → SheetWritten
 writeCall names ids text =
     require (namesFor names (length ids)) (record { outcome = Refused NO-SHEET; text = text })

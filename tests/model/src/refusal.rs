@@ -38,8 +38,7 @@ pub const NO_WAY_ROUND: u32 = 16;
 pub const OUTPUT_SHORT: u32 = 17;
 /// Is the founder below the hub count?
 pub const NO_FOUNDER: u32 = 18;
-/// Is the text a sheet, or are the names one zero-ended name for each
-/// identifier?
+/// Is the text a sheet? Are the names to be written one for each identifier?
 pub const NO_SHEET: u32 = 19;
 /// Are all identifiers at most 4294967295?
 pub const IDENTIFIER_TOO_LARGE: u32 = 20;
