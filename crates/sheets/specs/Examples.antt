@@ -1,11 +1,14 @@
 -- The readings of the sheet's edge cases, computed. Assumes nothing.
 use mathlib.Core.Path.{_≡_, refl}
-use mathlib.Core.List.{[], _∷_}
-use Rattle.lists.specs.Basics.{if_then_else_, every}
-use Rattle.sheets.specs.Grammar.{bare, doubled, isDigit}
+use mathlib.Core.List.{List, [], _∷_}
+use native.Mathlib.Omega.{arith}
+use Rattle.lists.specs.Basics.{if_then_else_, every, All}
+use Rattle.sheets.specs.Grammar.{Row, bare, nonZero, doubled, isDigit}
+use Rattle.sheets.specs.Rows.{namesOf, identifiersOf}
 use Rattle.sheets.specs.Reader
 use Rattle.sheets.specs.Reader.{next, effect, said, valued, told, moved, fed, run, fresh, nothing, lists, ending, endedAs, ended, reading}
-use Rattle.sheets.specs.Writer.{nameText, lastDigits, digitCount, decimal, rowText}
+use Rattle.sheets.specs.Writer.{nameText, lastDigits, digitCount, decimal, rowText, writeSheet}
+use Rattle.sheets.specs.Theorem.{Writable, round-trip}
 
 -- "a""b",007 CR LF ,"4294967296" : two rows, the second without a name, its number too large (which is 20), the last CR LF missing.
 pub two-rows : reading (34 ∷ 97 ∷ 34 ∷ 34 ∷ 98 ∷ 34 ∷ 44 ∷ 48 ∷ 48 ∷ 55 ∷ 13 ∷ 10 ∷ 44 ∷ 34 ∷ 52 ∷ 50 ∷ 57 ∷ 52 ∷ 57 ∷ 54 ∷ 55 ∷ 50 ∷ 57 ∷ 54 ∷ 34 ∷ [])
@@ -36,3 +39,15 @@ pub written :
     × (rowText (record { name = 32 ∷ []; identifier = 0 }) ≡ 32 ∷ 44 ∷ 48 ∷ 13 ∷ 10 ∷ [])
 unfolding rowText nameText decimal lastDigits digitCount doubled bare every if_then_else_
 written = (refl, refl)
+
+-- Two rows that can be written: a name of a quote, a comma, CR and LF, and an empty one. The text for them says them again.
+unfoldable pub awkward : List Row
+awkward = record { name = 34 ∷ 44 ∷ 13 ∷ 10 ∷ []; identifier = 0 } ∷ record { name = []; identifier = 4294967295 } ∷ []
+
+pub awkward-writable : All Writable awkward
+unfolding awkward nonZero every
+awkward-writable = ((refl, omega arith), ((refl, omega arith), tt))
+
+pub there-and-back : reading (writeSheet awkward) ≡ lists (34 ∷ 44 ∷ 13 ∷ 10 ∷ 0 ∷ 0 ∷ []) (0 ∷ 4294967295 ∷ [])
+unfolding awkward namesOf identifiersOf
+there-and-back = round-trip awkward awkward-writable
