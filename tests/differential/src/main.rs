@@ -49,7 +49,7 @@ use std::time::{Duration, Instant};
 use crate::calls::ENGINE;
 use crate::parts::PARTS;
 use crate::reached::Reached;
-use crate::schedule::{run_all, Report};
+use crate::schedule::{run_all, Report, LONG};
 use crate::sheets::counts::Sheets;
 
 /// From so many calls on, so many lines of `inspect` and so many texts that might be sheets,
@@ -57,9 +57,8 @@ use crate::sheets::counts::Sheets;
 const ENOUGH: u64 = 1_000_000;
 const ENOUGH_LINES: u64 = 150_000;
 const ENOUGH_TEXTS: u64 = 2_000_000;
-/// A run of so many seconds, as the gate's is, must make so many calls. A shorter one may make
-/// fewer, and then says that it skips the test of what was reached.
-const LONG: u64 = 60;
+// A long run must make so many calls. A shorter one may make fewer, and then says that it skips
+// the test of what was reached.
 
 /// Tests that passed and failed.
 #[derive(Default)]

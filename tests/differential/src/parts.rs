@@ -18,21 +18,23 @@ pub struct Part {
     pub name: &'static str,
     /// Its share of the time, of 100.
     pub share: u32,
+    /// So many batches are made in a long run, also where the time is up before.
+    pub least: u64,
     /// One batch.
     pub batch: Batch,
 }
 
 /// All parts.
 pub const PARTS: [Part; 9] = [
-    Part { name: "runs", share: 34, batch: runs::batch },
-    Part { name: "witnessed", share: 8, batch: runs::witnessed_batch },
-    Part { name: "unreachable", share: 12, batch: unreachable::batch },
-    Part { name: "damaged", share: 10, batch: damaged::batch },
-    Part { name: "lengths", share: 3, batch: lengths::batch },
-    Part { name: "founding", share: 3, batch: founding::batch },
-    Part { name: "sheets", share: 14, batch: sheets::batch },
-    Part { name: "ringrun", share: 10, batch: program::batch },
-    Part { name: "inspect", share: 6, batch: program::inspect_batch },
+    Part { name: "runs", share: 34, least: 0, batch: runs::batch },
+    Part { name: "witnessed", share: 8, least: 0, batch: runs::witnessed_batch },
+    Part { name: "unreachable", share: 12, least: 0, batch: unreachable::batch },
+    Part { name: "damaged", share: 10, least: 0, batch: damaged::batch },
+    Part { name: "lengths", share: 3, least: 0, batch: lengths::batch },
+    Part { name: "founding", share: 3, least: 0, batch: founding::batch },
+    Part { name: "sheets", share: 14, least: 5_000, batch: sheets::batch },
+    Part { name: "ringrun", share: 10, least: 0, batch: program::batch },
+    Part { name: "inspect", share: 6, least: 0, batch: program::inspect_batch },
 ];
 
 impl Part {
