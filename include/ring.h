@@ -30,15 +30,19 @@ extern "C" {
 #define RING_ANSWER_BYTES 20u   /* a step's answer: the least that `out` must have */
 #define RING_OWNER_BYTES 4u     /* the owner query's answer: the least that `out` must have */
 #define RING_COUNTS_BYTES 16u   /* the counts of a sheet read or written: the least that `counts` must have */
+#define RING_CARDS_BYTES 8452u  /* a card slice: the least that `cards` must have */
 
 /* The most hubs: the most identifiers, of four bytes each, that found a ring. */
 #define RING_MOST_HUBS 64u
 
+/* The most cards that a card slice keeps. */
+#define RING_MOST_CARDS 512u
+
 /* What a call returns. The numbers are those of the ring's documents; no call of this header returns 16, the roll call's. */
 enum ring_code {
     RING_OK = 0,
-    RING_RECORD_SHORT = 1,    /* `words` has fewer than RING_RECORD_BYTES bytes */
-    RING_NOT_WELL_FORMED = 2, /* the record is damaged: the calls that found a ring, and ring_step, leave none that is refused so */
+    RING_RECORD_SHORT = 1,    /* `words` has fewer than RING_RECORD_BYTES bytes, or `cards` fewer than RING_CARDS_BYTES */
+    RING_NOT_WELL_FORMED = 2, /* record or cards are damaged: the calls that found a ring, steps and offers leave none that is refused so */
     RING_NO_OPERATION = 3,    /* the operation is not one of enum ring_operation */
     RING_NO_HUB = 4,          /* a hub number is not below the number of hubs */
     RING_NOT_IN_RING = 5,     /* the hub is outside or still joining */
@@ -57,7 +61,10 @@ enum ring_code {
     RING_NO_FOUNDER = 18,     /* fresh: the founder named is not below the number of hubs */
     RING_NO_SHEET = 19,       /* sheet: the text is none, or the names to be written are not one for each identifier */
     RING_IDENTIFIER_TOO_LARGE = 20, /* sheet: an identifier is above 4294967295 */
-    RING_ROOM_SHORT = 21      /* sheet: an output is too short for what is to be written */
+    RING_ROOM_SHORT = 21,     /* sheet: an output is too short for what is to be written */
+    RING_REVISION_LOWER = 22, /* offer: the machine's card has a higher revision */
+    RING_PRICE_DIFFERS = 23,  /* offer: the machine's card has this revision, and another price */
+    RING_CARDS_FULL = 24      /* offer: a new machine, and RING_MOST_CARDS cards are kept */
 };
 
 /* A hub's state: the second of the seven words of its row, which begins at byte 16 + 28 times the hub's number of the record. */
@@ -130,6 +137,54 @@ uint32_t ring_step(uint8_t *words, size_t words_len, uint32_t operation, uint32_
  * Returns RING_OK, RING_OUTPUT_SHORT, RING_RECORD_SHORT, RING_NOT_WELL_FORMED or RING_NO_HOLDER.
  */
 uint32_t ring_owner(const uint8_t *words, size_t words_len, uint32_t number, uint8_t *out, size_t out_len);
+
+/*
+ * Price cards. A card slice is 2,113 words, as bytes like the record: the number of cards; for each of 64 hubs 1 where it is in the ring and 0 where
+ * it is not; and four words a card, machine, revision, price in cents, and the hub that keeps it. It is made together with its ring, by one of the
+ * next two calls. From then on lend it to every step on that record (ring_step_cards, never ring_step), and write it by steps and offers alone:
+ * then each card is always with the hub that owns its machine's number.
+ *
+ * Of both slices the record is looked at first: too short, the record, then the cards (RING_RECORD_SHORT); damaged, the record, then the cards
+ * beside it (RING_NOT_WELL_FORMED). A refused call has written to neither.
+ */
+
+/*
+ * ring_fresh_cards - as ring_fresh, and with the ring its card slice: no card, and the founder alone in the ring.
+ *
+ *   cards, cards_len  the card slice, written over; length in bytes
+ *
+ * Returns RING_OK, RING_RECORD_SHORT (for words, then for cards), RING_IDENTIFIER_COUNT or RING_IDENTIFIER_TWICE.
+ */
+uint32_t ring_fresh_cards(uint8_t *words, size_t words_len, uint8_t *cards, size_t cards_len, const uint8_t *identifiers,
+                          size_t identifiers_len);
+
+/* ring_fresh_by_cards - the same with the founder named, as ring_fresh_by has it: RING_NO_FOUNDER is asked last. */
+uint32_t ring_fresh_by_cards(uint8_t *words, size_t words_len, uint8_t *cards, size_t cards_len, const uint8_t *identifiers,
+                             size_t identifiers_len, uint32_t founder);
+
+/*
+ * ring_step_cards - as ring_step; where a hub has entered or gone, its cards change hub in the same call.
+ *
+ *   cards, cards_len  the card slice that was made with this record, changed by an answer RING_ENTERED or RING_GONE; length in bytes
+ *
+ * Returns RING_OK, RING_OUTPUT_SHORT, or a refusal from 1 to 12. A step that would take the only hub out of the cards is RING_NOT_WELL_FORMED,
+ * asked last; with the slice that was made with the record this does not happen.
+ */
+uint32_t ring_step_cards(uint8_t *words, size_t words_len, uint8_t *cards, size_t cards_len, uint32_t operation, uint32_t x, uint32_t y,
+                         uint8_t *out, size_t out_len);
+
+/*
+ * ring_offer - a card for a machine. It takes the place of the machine's card if its revision is higher, goes last if the machine has none, and
+ * changes nothing if the machine has this very card. The hub that keeps it is filled in.
+ *
+ *   words, words_len          the record, only read; length in bytes
+ *   cards, cards_len          the card slice that was made with it; length in bytes
+ *   machine, revision, price  any numbers
+ *
+ * Returns RING_OK, RING_RECORD_SHORT, RING_NOT_WELL_FORMED, RING_REVISION_LOWER, RING_PRICE_DIFFERS or RING_CARDS_FULL.
+ */
+uint32_t ring_offer(const uint8_t *words, size_t words_len, uint8_t *cards, size_t cards_len, uint32_t machine, uint32_t revision,
+                    uint32_t price);
 
 /*
  * ring_sheet_read - the hubs of an office sheet: RFC 4180, a name and an identifier in decimal in each row, each quoted or not, no header.

@@ -25,8 +25,8 @@ use Rattle.protocol.specs.Routing.{inRing, responsible}
 use Rattle.protocol.specs.Kinds as kinds
 use Rattle.protocol.specs.Kinds.{note, question, grown, lookupRouted, joinRouted, admitted, handle}
 use Rattle.protocol.specs.Step.{conclude}
-use Rattle.protocol.specs.Membership.{afterAnswer, foundTicket}
-use Rattle.atomicity.specs.Members.{mark, takenIn-same, takenIn-other, struck-same, struck-other}
+use Rattle.protocol.specs.Membership.{afterAnswer, foundTicket, mark}
+use Rattle.atomicity.specs.Members.{takenIn-same, takenIn-other, struck-same, struck-other}
 use Rattle.atomicity.specs.Neighbours.{owner-of}
 use Rattle.atomicity.specs.Invariant.{Hubs, Msg, erase, to, owners, Loc, Way, Inv}
 use Rattle.atomicity.specs.Invariant.{lookup, join, joinRetry, joinPoint, newSucc, newSuccAck, joinDone}

@@ -25,8 +25,7 @@ use Rattle.protocol.specs.Names.{LEAVING, LOOKUP}
 use Rattle.protocol.specs.Record.{round, State, outside}
 use Rattle.protocol.specs.Routing.{covers, onward, route}
 use Rattle.protocol.specs.Step.{Result, refused, accepted}
-use Rattle.protocol.specs.Membership.{afterAnswer, foundTicket}
-use Rattle.atomicity.specs.Members.{mark}
+use Rattle.protocol.specs.Membership.{afterAnswer, foundTicket, mark}
 use Rattle.atomicity.specs.Neighbours.{Owner}
 use Rattle.atomicity.specs.Invariant.{Core, Hubs, Msg, erase, from, to, Inv}
 use Rattle.atomicity.specs.Invariant.{lookup, join, joinRetry, joinPoint, newSucc, newSuccAck, joinDone}

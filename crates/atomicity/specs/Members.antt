@@ -1,26 +1,19 @@
 -- The ledger's members as the invariant sees them, and its owner as document 01 computes it. Assumes nothing.
-use mathlib.Core.Path.{_≡_, refl, sym, _∙_, ap, subst}
+use mathlib.Core.Path.{_≡_, refl, sym, _∙_, ap}
 use mathlib.Core.Logic.{inl, inr, _≢_}
 use mathlib.Core.Bool.{Bool, true, false}
 use mathlib.Core.List.{List, [], _∷_}
-use Prim.Native.Nat.{ℕ, _≤_, _<_}
+use Prim.Native.Nat.{ℕ, _<_}
 use native.Mathlib.Omega.{arith}
-use lib.Dec.{T, eqb, eqb→eq, leb, leb→le, nleb→lt, T-not}
-use lib.ListN.{getD}
-use Rattle.clockwise.specs.Clockwise.{dist}
-use Rattle.clockwise.specs.Laws.{dist-inj}
+use lib.Dec.{T, eqb, eqb→eq, T-not}
+use lib.ListN.{length, getD}
 use Rattle.lists.specs.Basics.{if_then_else_, Mem}
 use Rattle.lists.specs.Choice.{choose, passes}
 use Rattle.lists.specs.Tests.{→eqb}
 use Rattle.protocol.specs.Record.{round}
-use Rattle.protocol.specs.Membership.{struckOff, takenIn, nobody, node, nearer, ownerAmong}
-use Rattle.protocol.specs.Membership.{Owner as Owning}
+use Rattle.protocol.specs.Membership.{mark, struckOff, takenIn, node, ownerAmong}
+use Rattle.layout.specs.Owners.{Names, owner-is}
 use Rattle.atomicity.specs.Neighbours.{Owner}
-
--- 1 for a member, 0 for the others
-unfoldable pub mark : List ℕ → ℕ → ℕ
-mark [] h = 0
-mark (k ∷ members) h = if eqb k h then 1 else mark members h
 
 pub mark-head : (members : List ℕ) (h : ℕ) → mark (h ∷ members) h ≡ 1
 unfolding mark
@@ -75,49 +68,8 @@ mem-marked (k ∷ members) h (inl e) = passes (λ z. z ≡ 1) (eqb k h) 1 (mark 
 mem-marked (k ∷ members) h (inr i) = choose (λ z. z ≡ 1) (eqb k h) 1 (mark members h) (λ _. refl) (λ _. mem-marked members h i)
 mem-marked [] h i = absurd i
 
--- The computed owner is a member at the least distance.
-module _ (ids : List ℕ) (v : ℕ) where
-  abbrev far : ℕ → ℕ
-  far h = dist round v (getD ids h 0)
-
-  record Least (members : List ℕ) (o : Owning) : Type 0 where
-    who : ℕ
-    is : o ≡ node who
-    member : Mem who members
-    least : (k : ℕ) → Mem k members → far who ≤ far k
-
-  least-more : (h : ℕ) (members : List ℕ) (o : Owning) → Least members o → Least (h ∷ members) (nearer ids v h o)
-  unfolding nearer
-  least-more h members o l = subst (λ z. Least (h ∷ members) (nearer ids v h z)) (sym (l .is))
-      (choose (Least (h ∷ members)) (leb (far h) (far (l .who))) (node h) (node (l .who))
-      (λ t. let q = leb→le _ _ t in record { who = h; is = refl; member = inl refl; least = λ k. near q k })
-      (λ t. let q = nleb→lt _ _ t in record { who = l .who; is = refl; member = inr (l .member); least = λ k. keep q k }))
-    where
-      near : far h ≤ far (l .who) → (k : ℕ) → Mem k (h ∷ members) → far h ≤ far k
-      near q k (inl e) = omega (arith, ap far e)
-      near q k (inr i) = omega (arith, l .least k i)
-
-      keep : far (l .who) < far h → (k : ℕ) → Mem k (h ∷ members) → far (l .who) ≤ far k
-      keep q k (inl e) = omega (arith, ap far e)
-      keep q k (inr i) = l .least k i
-
-  least-of : (members : List ℕ) (h : ℕ) → Mem h members → Least members (ownerAmong ids members v)
-  unfolding ownerAmong nearer
-  least-of [] h i = absurd i
-  least-of (k ∷ []) h i = record { who = k; is = one; member = inl refl; least = λ z. elim [ inl e ↦ omega (arith, ap far e) | inr x ↦ absurd x ] }
-    where
-      one : nearer ids v k nobody ≡ node k
-      one = refl
-  least-of (k ∷ j ∷ members) h i = least-more k (j ∷ members) (ownerAmong ids (j ∷ members) v) (least-of (j ∷ members) j (inl refl))
-
 -- The owner by the invariant is the owner that the ledger computes.
-pub owner-computed : (ids : List ℕ) (c : ℕ) → ((h : ℕ) → getD ids h 0 < round) → ((a b : ℕ) → a < c → b < c → getD ids a 0 ≡ getD ids b 0 → a ≡ b)
-    → (members : List ℕ) → ((h : ℕ) → mark members h ≡ 1 → h < c) → (v h : ℕ) → v < round
+pub owner-computed : (ids : List ℕ) → Names ids → (members : List ℕ) → ((h : ℕ) → mark members h ≡ 1 → h < length ids) → (v h : ℕ) → v < round
     → Owner round (λ k. getD ids k 0) (mark members) v h → ownerAmong ids members v ≡ node h
-owner-computed ids c small inj members below v h lv o =
-    let l = least-of ids v members h (marked members h (o .member)) in
-    let e : l .who ≡ h =
-    inj (l .who) h (below (l .who) (mem-marked members (l .who) (l .member))) (below h (o .member))
-    (dist-inj round v (getD ids (l .who) 0) (getD ids h 0) lv (small (l .who)) (small h)
-    (omega (arith, l .least h (marked members h (o .member)), o .least (l .who) (mem-marked members (l .who) (l .member))))) in
-    l .is ∙ ap node e
+owner-computed ids N members below v h lv o =
+    owner-is ids members N (λ k i. below k (mem-marked members k i)) v h lv (marked members h (o .member)) (λ k i. o .least k (mem-marked members k i)) .is

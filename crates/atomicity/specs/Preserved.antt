@@ -13,7 +13,7 @@ use lib.ListN.{length, getD, set, take, drop, length-set, length-append, length-
 use lib.Seq.{map-set-same}
 use Rattle.lists.specs.Basics.{if_then_else_, require, Mem}
 use Rattle.lists.specs.Choice.{choose, tested}
-use Rattle.lists.specs.Members.{mem-at, mem-split}
+use Rattle.lists.specs.Members.{mem-at, mem-split, mem-set}
 use Rattle.lists.specs.Search.{Missed, search-ends}
 use Rattle.lists.specs.Search.{Located}
 use Rattle.lists.specs.Tests.{and-left, and-right, →eqb, true-T, Distinct}
@@ -362,13 +362,6 @@ leaves-form a s f = f
 pub leaves-accepted : (a : Answer) (s : State) → Form s → Leaves (accepted a s)
 unfolding Leaves
 leaves-accepted a s f = f
-
-mem-set : {A : Type 0} (l : List A) (i : ℕ) (v x : A) → Mem x (set l i v) → (x ≡ v) ⊎ Mem x l
-mem-set [] i v x k = absurd k
-mem-set (y ∷ l) zero v x (inl e) = inl e
-mem-set (y ∷ l) zero v x (inr k) = inr (inr k)
-mem-set (y ∷ l) (suc i) v x (inl e) = inr (inl e)
-mem-set (y ∷ l) (suc i) v x (inr k) = elim (mem-set l i v x k) [ inl e ↦ inl e | inr j ↦ inr (inr j) ]
 
 -- the row of hub t is made v
 with-row-form : (s : State) (t : ℕ) (v : Row) → Form s → RowForm (count s) v → v .identifier ≡ row s t .identifier → Form (withRow s t v)

@@ -22,8 +22,8 @@ use Rattle.protocol.specs.Fresh.{alone, foundedBy, fresh}
 use Rattle.protocol.specs.Kinds.{handle}
 use Rattle.protocol.specs.Step as step
 use Rattle.protocol.specs.Step.{Result, refused, accepted, conclude, onLink, oldest, delivered}
-use Rattle.protocol.specs.Membership.{foundingMembers}
-use Rattle.atomicity.specs.Members.{mark, mark-head, mark-tail}
+use Rattle.protocol.specs.Membership.{foundingMembers, mark}
+use Rattle.atomicity.specs.Members.{mark-head, mark-tail}
 use Rattle.atomicity.specs.Neighbours.{PredL}
 use Rattle.atomicity.specs.Invariant.{Hubs, Msg, erase, from, to, joinDone, Inv}
 use Rattle.atomicity.specs.OneStep.{Clear}

@@ -10,7 +10,7 @@ use lib.Dec.{T, eqb}
 use lib.ListN.{length, getD, length-append, List·getD-eq-default}
 use Rattle.clockwise.specs.Laws.{In, within-in}
 use Rattle.lists.specs.Basics.{if_then_else_, Mem, All, times}
-use Rattle.lists.specs.Members.{mem-at, place, all-mem}
+use Rattle.lists.specs.Members.{mem-at, place, all-mem, distinct-apart}
 use Rattle.lists.specs.Search.{Located, Missed, search-ends}
 use Rattle.lists.specs.Tests.{and-left, and-right, and-both, true-T, T-true, →eqb, Distinct, says-distinct}
 use Rattle.protocol.specs.declared.Message.{Message}
@@ -24,9 +24,9 @@ use Rattle.protocol.specs.Fresh.{fresh}
 use Rattle.protocol.specs.Routing.{responsible, covers}
 use Rattle.protocol.specs.Step.{Result, refused, step, deliver, onLink}
 use Rattle.protocol.specs.Step.{accepted as went}
-use Rattle.protocol.specs.Membership.{foundingMembers, afterOutcome, afterAnswer, node, ownerAmong, holds, waiting, foundTicket, ticketOf, acceptedAsk}
+use Rattle.protocol.specs.Membership.{foundingMembers, afterOutcome, afterAnswer, node, ownerAmong, holds, waiting, foundTicket, ticketOf, acceptedAsk, mark}
 use Rattle.layout.specs.Form.{Form}
-use Rattle.atomicity.specs.Members.{mark, owner-computed}
+use Rattle.atomicity.specs.Members.{owner-computed}
 use Rattle.atomicity.specs.Neighbours.{owner-of, holder-one}
 use Rattle.atomicity.specs.Invariant.{Msg, erase, Inv}
 use Rattle.atomicity.specs.Invariant.{lookup, join, joinRetry, joinPoint, newSucc, newSuccAck, joinDone}
@@ -36,15 +36,6 @@ use Rattle.atomicity.specs.Preserved.{fresh-form, responsible-states}
 use Rattle.atomicity.specs.Engines.{refused-answered, left, On, Begun, Laws, present-laws}
 use Rattle.atomicity.specs.Run.{question, step-fine, delivered-fine, fresh-good}
 use Rattle.atomicity.specs.Demand3.{Call, Word, ThreeWords, Engine, present, called, Event, history, recordAfter, membersAfter, questionsAccepted, foundTickets, Founded, Reached, Claims, Demand3}
-
--- Identifiers that differ: two hubs with the same one are one hub.
-pub distinct-apart : (l : List ℕ) → Distinct l → (a b : ℕ) → a < length l → b < length l → getD l a 0 ≡ getD l b 0 → a ≡ b
-unfolding Distinct
-distinct-apart [] d a b la lb e = absurd (omega arith)
-distinct-apart (x ∷ l) d zero zero la lb e = refl
-distinct-apart (x ∷ l) d zero (suc b) la lb e = absurd (d .0 (getD l b 0) (mem-at l b 0 (omega arith)) e)
-distinct-apart (x ∷ l) d (suc a) zero la lb e = absurd (d .0 (getD l a 0) (mem-at l a 0 (omega arith)) (sym e))
-distinct-apart (x ∷ l) d (suc a) (suc b) la lb e = ap suc (distinct-apart l (d .1) a b (omega arith) (omega arith) e)
 
 pub words-small : (l : List ℕ) → All Word l → (h : ℕ) → getD l h 0 < round
 words-small l w h = go (decLt h (length l))
@@ -86,7 +77,7 @@ module _ (ids : List ℕ) where
   named-at members (x ∷ before) e after n = named-at (afterOutcome members (x .outcome)) before e after (n .1)
 
   -- one event more
-  members-last : (members : List ℕ) (events : List Event) (e : Event) → membersAfter members (events ++ (e ∷ [])) ≡ afterOutcome (membersAfter members events) (e .outcome)
+  pub members-last : (members : List ℕ) (events : List Event) (e : Event) → membersAfter members (events ++ (e ∷ [])) ≡ afterOutcome (membersAfter members events) (e .outcome)
   unfolding membersAfter
   members-last members [] e = refl
   members-last members (x ∷ events) e = members-last (afterOutcome members (x .outcome)) events e
@@ -136,6 +127,17 @@ module _ (ids : List ℕ) where
       Ring ids → (s : State) (members ks : List ℕ) → Form s → Good (λ h. getD ids h 0) (length ids) s members ks → P members s
       → (operation x y : ℕ) → Word y → Kept P members (step s operation x y)
 
+-- Members are hubs.
+pub members-below : (ids : List ℕ) {s : State} {members ks : List ℕ} → Good (λ h. getD ids h 0) (length ids) s members ks → (h : ℕ) → mark members h ≡ 1 → h < length ids
+members-below ids {s} {members} {ks} G h e = go (decLt 0 (rowOf (s .rows) h .state))
+  where
+    I : Inv round (λ k. getD ids k 0) (length ids) (hubs (s .rows) (mark members)) [] (G .ms)
+    I = G .holds .inv
+
+    go : Dec (0 < rowOf (s .rows) h .state) → h < length ids
+    go (yes l) = I .below h l
+    go (no l) = absurd (omega (arith, I .member h .out (omega arith)))
+
 -- A ring of the identifiers ids.
 module _ (ids : List ℕ) (small : (h : ℕ) → getD ids h 0 < round) (inj : (a b : ℕ) → a < length ids → b < length ids → getD ids a 0 ≡ getD ids b 0 → a ≡ b) where
   abbrev id : ℕ → ℕ
@@ -144,24 +146,13 @@ module _ (ids : List ℕ) (small : (h : ℕ) → getD ids h 0 < round) (inj : (a
   abbrev c : ℕ
   c = length ids
 
-  -- members are hubs
-  members-below : (s : State) (members ks : List ℕ) → Good id c s members ks → (h : ℕ) → mark members h ≡ 1 → h < c
-  members-below s members ks G h e = go (decLt 0 (rowOf (s .rows) h .state))
-    where
-      I : Inv round id c (hubs (s .rows) (mark members)) [] (G .ms)
-      I = G .holds .inv
-
-      go : Dec (0 < rowOf (s .rows) h .state) → h < c
-      go (yes l) = I .below h l
-      go (no l) = absurd (omega (arith, I .member h .out (omega arith)))
-
   -- a found answer's owner, as the ledger computes it
   owner-named : {s : State} {members ks : List ℕ} → Good id c s members ks → (a : Answer) → Names id members a
       → (hub number ticket hops : ℕ) → Answered a ≡ Answered (Found hub number ticket hops) → ownerAmong ids members number ≡ node hub
   unfolding answerIn
   owner-named {s} {members} {ks} G a n hub number ticket hops e =
       let k = subst (Names id members) (ap answerIn e) n in
-      owner-computed ids c small inj members (members-below s members ks G) number hub (k .0) (k .1)
+      owner-computed ids (record { small = small; apart = inj }) members (members-below ids G) number hub (k .0) (k .1)
 
   -- What holds of a good state.
   module _ (s : State) (members ks : List ℕ) (G : Good id c s members ks) where
@@ -198,7 +189,7 @@ module _ (ids : List ℕ) (small : (h : ℕ) → getD ids h 0 < round) (inj : (a
     owner : (v h : ℕ) → Word v → holds s h v ≡ true → ownerAmong ids members v ≡ node h
     owner v h lv p =
         let x = holder h v p in
-        owner-computed ids c small inj members (members-below s members ks G) v h lv
+        owner-computed ids (record { small = small; apart = inj }) members (members-below ids G) v h lv
         (owner-of round id small v lv (x .member) (H .inv .next h (x .low) (x .member)) (x .at))
 
     waiting-is : (ms : List Msg) → waiting (map erase ms) ≡ total asks ms

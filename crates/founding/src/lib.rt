@@ -2,8 +2,8 @@
 mod founder;
 mod writing;
 
-use crate::founder::founding_node;
 use crate::writing::write_fresh;
+pub use founder::founding_node;
 use lists::both;
 use protocol::Answer;
 use protocol::Founder;
@@ -11,6 +11,7 @@ use protocol::Outcome;
 use protocol::form::RECORD_WORDS;
 use protocol::refusals;
 use wellformed::repeated;
+pub use writing::clear;
 ghost use mathlib.Core.Path.{_≡_};
 ghost use Rattle.protocol.specs.Calls.{freshCall, freshByCall};
 ghost use Rattle.protocol.specs.Fresh.{founderOf};

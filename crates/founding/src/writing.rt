@@ -13,7 +13,7 @@ ghost use Rattle.protocol.specs.Record.{mostNodes, rowStart, recordSize, rowWor
 ghost use Rattle.protocol.specs.Fresh.{fresh};
 
 // Unused rows and messages are all 0, so old words must go.
-fn clear(w: &mut [u32], n: usize)
+pub fn clear(w: &mut [u32], n: usize)
     requires { ⌜ n ≤ length (now w) ⌝ }
     ensures { λ _. ⌜ now (w .exit) ≡ replicate n 0 ++ drop n (now (w .entry)) ⌝ }
 {

@@ -4,3 +4,4 @@ pub mod Edits
 pub mod Questions
 pub mod Bytes
 pub mod Founder
+pub mod Owners

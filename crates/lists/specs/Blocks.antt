@@ -1,7 +1,7 @@
 -- Tables of values, and lists of values as runs of words. Assumes nothing.
-use mathlib.Core.Path.{_≡_, refl, ap, sym, _∙_}
+use mathlib.Core.Path.{_≡_, refl, ap, ap₂, sym, _∙_}
 use mathlib.Core.Logic.{_⊎_, inl, inr}
-use mathlib.Core.List.{List, [], _∷_, _++_, append-assoc}
+use mathlib.Core.List.{List, [], _∷_, _++_, map, append-assoc, map-append}
 use Prim.Native.Nat.{ℕ, suc, zero, _+_, _*_, _≤_, _<_}
 use native.Mathlib.Nat.{add-comm, mul-zero, mul-suc, eq-or-lt-of-le, le-of-suc-le-suc}
 use native.Mathlib.Numerals.{add-one}
@@ -59,3 +59,14 @@ module _ {A : Type 0} (f : A → List ℕ) where
   pub all-flat : (P : ℕ → Type 0) (xs : List A) → ((x : A) → Mem x xs → All P (f x)) → All P (flat f xs)
   all-flat P [] a = tt
   all-flat P (x ∷ xs) a = all-append P (f x) (flat f xs) (a x (inl refl)) (all-flat P xs (λ y k. a y (inr k)))
+
+-- tables, value by value
+pub table-cong : {A : Type 0} (f g : ℕ → A) (n : ℕ) → ((i : ℕ) → i < n → f i ≡ g i) → table n f ≡ table n g
+unfolding table
+table-cong f g zero e = refl
+table-cong f g (suc n) e = ap₂ (λ l x. l ++ (x ∷ [])) (table-cong f g n (λ i h. e i (omega arith))) (e n (omega arith))
+
+pub map-table : {A B : Type 0} (f : A → B) (g : ℕ → A) (n : ℕ) → map f (table n g) ≡ table n (λ i. f (g i))
+unfolding table
+map-table f g zero = refl
+map-table f g (suc n) = map-append f (table n g) (g n ∷ []) ∙ ap (λ l. l ++ (f (g n) ∷ [])) (map-table f g n)

@@ -1,13 +1,14 @@
 -- Membership, and counting in lists of numbers. Assumes nothing.
 use mathlib.Core.Path.{_≡_, refl, sym, _∙_, ap, subst}
 use mathlib.Core.Logic.{_⊎_, inl, inr, _≢_}
-use mathlib.Core.List.{List, [], _∷_, _++_}
+use mathlib.Core.List.{List, [], _∷_, _++_, map}
 use Prim.Native.Nat.{ℕ, zero, suc, _+_, _≤_, _<_}
 use native.Mathlib.Decide.{ℕ-discrete}
 use native.Mathlib.Omega.{arith}
 use lib.ListN.{length, getD, set, drop, replicate}
 use lib.Seq.{getD-set-same, getD-set-other}
 use Rattle.lists.specs.Basics.{Mem, All, ind, times}
+use Rattle.lists.specs.Tests.{Distinct}
 
 module _ {A : Type 0} where
   pub mem-split : (m : A) (s t : List A) → Mem m (s ++ t) → Mem m s ⊎ Mem m t
@@ -137,3 +138,24 @@ module _ {A : Type 0} where
       go : Dec (k ≡ i) → getD (set l i v) k d ≡ g k
       go (yes q) = ap (λ z. getD (set l i v) z d) q ∙ getD-set-same l i v d h ∙ e ∙ ap g (sym q)
       go (no q) = getD-set-other l i k v d q ∙ f k (omega arith)
+
+pub mem-map : {A B : Type 0} (f : A → B) (l : List A) (y : B) → Mem y (map f l) → (x : A) × Mem x l × (y ≡ f x)
+mem-map f [] y i = absurd i
+mem-map f (x ∷ l) y (inl e) = (x, inl refl, e)
+mem-map f (x ∷ l) y (inr i) = let r = mem-map f l y i in (r .0, inr (r .1), r .2)
+
+pub mem-set : {A : Type 0} (l : List A) (i : ℕ) (v x : A) → Mem x (set l i v) → (x ≡ v) ⊎ Mem x l
+mem-set [] i v x k = absurd k
+mem-set (y ∷ l) zero v x (inl e) = inl e
+mem-set (y ∷ l) zero v x (inr k) = inr (inr k)
+mem-set (y ∷ l) (suc i) v x (inl e) = inr (inl e)
+mem-set (y ∷ l) (suc i) v x (inr k) = elim (mem-set l i v x k) [ inl e ↦ inl e | inr j ↦ inr (inr j) ]
+
+-- Numbers that differ: where two places have the same, they are one place.
+pub distinct-apart : (l : List ℕ) → Distinct l → (a b : ℕ) → a < length l → b < length l → getD l a 0 ≡ getD l b 0 → a ≡ b
+unfolding Distinct
+distinct-apart [] d a b la lb e = absurd (omega arith)
+distinct-apart (x ∷ l) d zero zero la lb e = refl
+distinct-apart (x ∷ l) d zero (suc b) la lb e = absurd (d .0 (getD l b 0) (mem-at l b 0 (omega arith)) e)
+distinct-apart (x ∷ l) d (suc a) zero la lb e = absurd (d .0 (getD l a 0) (mem-at l a 0 (omega arith)) (sym e))
+distinct-apart (x ∷ l) d (suc a) (suc b) la lb e = ap suc (distinct-apart l (d .1) a b (omega arith) (omega arith) e)

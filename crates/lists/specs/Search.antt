@@ -55,3 +55,8 @@ module _ (f : ℕ → Bool) where
             end = s;
             none = λ i h. ⊎-elim (λ q. ap f q ∙ e) (λ q. k .none i q) (eq-or-lt-of-le (le-of-suc-le-suc h));
           })
+
+pub first-cong : (f g : ℕ → Bool) (n : ℕ) → ((i : ℕ) → i < n → f i ≡ g i) → first f n ≡ first g n
+unfolding first
+first-cong f g zero h = refl
+first-cong f g (suc n) h = rw (first-cong f g n (λ i l. h i (omega arith)), h n (omega arith))

@@ -8,6 +8,8 @@ pub mod Step
 pub mod Answers
 pub mod Membership
 pub mod Calls
+pub mod Cards
 pub mod Frames
 pub mod Ringrun
 pub mod Bytes
+pub mod CardBytes

@@ -43,6 +43,11 @@ unfoldable pub afterOutcome : List ℕ → Outcome → List ℕ
 afterOutcome members (Refused k) = members
 afterOutcome members (Answered a) = afterAnswer members a
 
+-- 1 for a member, 0 for every other number.
+unfoldable pub mark : List ℕ → ℕ → ℕ
+mark [] hub = 0
+mark (k ∷ members) hub = if eqb k hub then 1 else mark members hub
+
 -- 'The owner of v is the member with the least clockwise distance from v to its identifier; an empty set has none.'
 pub data Owner : Type 0 where
   nobody : Owner

@@ -92,11 +92,11 @@ REFUSAL = 8
 
 -- The refusals, each the number of a question whose answer was no.
 
--- fewer than 1,988 words
+-- fewer than 1,988 words, or 2,113 for the cards
 abbrev pub RECORD-SHORT : ℕ
 RECORD-SHORT = 1
 
--- the record is not well formed
+-- the record is not well formed, or the cards beside it
 abbrev pub NOT-WELL-FORMED : ℕ
 NOT-WELL-FORMED = 2
 
@@ -175,6 +175,18 @@ IDENTIFIER-TOO-LARGE = 20
 -- sheet: there is too little room for what is to be written
 abbrev pub ROOM-SHORT : ℕ
 ROOM-SHORT = 21
+
+-- offer: the machine's card has a higher revision
+abbrev pub REVISION-LOWER : ℕ
+REVISION-LOWER = 22
+
+-- offer: the machine's card has this revision, and another price
+abbrev pub PRICE-DIFFERS : ℕ
+PRICE-DIFFERS = 23
+
+-- offer: a new machine, and 512 cards are kept
+abbrev pub CARDS-FULL : ℕ
+CARDS-FULL = 24
 
 -- a line of `ringrun` that is no frame, which prints EEFF: no call returns it
 abbrev pub UNREADABLE : ℕ

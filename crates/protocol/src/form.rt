@@ -21,3 +21,16 @@ pub const MOST_MESSAGES: u32 = 256;
 
 // 'Pointers are hub numbers, 255 for none.'
 pub const NONE: u32 = 255;
+
+// The form of a card slice (document 02, 2026-04): the number of cards, a mark for each node, and four words a card. specs/Cards.antt has the same numbers.
+pub const BOOK_WORDS: usize = 2113;
+
+pub const BOOK_BYTES: usize = 8452;
+
+pub const MARKS_AT: usize = 1;
+
+pub const CARDS_AT: usize = 65;
+
+pub const CARD_WORDS: usize = 4;
+
+pub const MOST_CARDS: u32 = 512;

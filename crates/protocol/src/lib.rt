@@ -27,6 +27,14 @@ pub struct Message {
     pub hops: u32,
 }
 
+// A price card (document 02, 2026-04), in the order of its four words.
+pub struct Card {
+    pub machine: u32,
+    pub revision: u32,
+    pub price: u32,
+    pub hub: u32,
+}
+
 // What an accepted step answers.
 pub enum Answer {
     Quiet,

@@ -1,8 +1,8 @@
 // The refusals, by document 01's numbers ('Questions before a call, in order'). specs/Names.antt has the same names, with - for _.
-// Fewer than 1,988 words.
+// Fewer than 1,988 words, or 2,113 for the cards.
 pub const RECORD_SHORT: u32 = 1;
 
-// The record is not well formed.
+// The record is not well formed, or the cards beside it.
 pub const NOT_WELL_FORMED: u32 = 2;
 
 // No such operation.
@@ -61,6 +61,15 @@ pub const IDENTIFIER_TOO_LARGE: u32 = 20;
 
 // Sheet: there is too little room for what is to be written.
 pub const ROOM_SHORT: u32 = 21;
+
+// Offer: the machine's card has a higher revision.
+pub const REVISION_LOWER: u32 = 22;
+
+// Offer: the machine's card has this revision, and another price.
+pub const PRICE_DIFFERS: u32 = 23;
+
+// Offer: a new machine, and 512 cards are kept.
+pub const CARDS_FULL: u32 = 24;
 
 // A line of `ringrun` that is no frame: it prints EEFF. No call returns this number.
 pub const UNREADABLE: u32 = 255;

@@ -1,10 +1,12 @@
 // Words out of bytes, and into bytes. The loops have no way out but their end, so that the compiler can take many words at a time.
+use protocol::form::BOOK_WORDS;
 use protocol::form::RECORD_WORDS;
 ghost use mathlib.Core.Path.{_≡_};
 ghost use Prim.Native.Nat.{_+_, _*_, _≤_, _<_};
 ghost use lib.ListN.{length, take};
 ghost use lib.Seq.{sets};
 ghost use Rattle.protocol.specs.Record.{recordSize};
+ghost use Rattle.protocol.specs.Cards.{bookSize};
 ghost use Rattle.protocol.specs.Bytes.{wordBytes, over};
 ghost use Rattle.ring_c.specs.Carry.{wordAt, firstWords};
 
@@ -43,6 +45,16 @@ pub(crate) fn loaded(b: &[u8]) -> [u32; RECORD_WORDS]
     let mut w = [0u32; RECORD_WORDS];
     load(b, &mut w, RECORD_WORDS);
     w
+}
+
+// The cards, and nothing that is behind them.
+pub(crate) fn loaded_book(b: &[u8]) -> [u32; BOOK_WORDS]
+    requires { ⌜ 4 * bookSize ≤ length (now b) ⌝ }
+    ensures { λ r. ⌜ r ≡ firstWords (now (b .entry)) bookSize ⌝ }
+{
+    let mut k = [0u32; BOOK_WORDS];
+    load(b, &mut k, BOOK_WORDS);
+    k
 }
 
 fn put_word(p: &mut [u8], x: u32)

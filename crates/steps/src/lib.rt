@@ -4,4 +4,5 @@ mod asks;
 mod commands;
 mod perform;
 
+pub use perform::run;
 pub use perform::step;

@@ -11,8 +11,8 @@ ghost use Rattle.protocol.specs.Step.{step as stepSpec};
 ghost use Rattle.protocol.specs.Calls.{written, stepCall};
 ghost use Rattle.layout.specs.Form.{Valid};
 
-// 'operation 0 to 3? 3.'
-fn run(w: &mut [u32], operation: u32, x: u32, y: u32) -> Outcome
+// 'operation 0 to 3? 3.' On a record that has passed questions 1 and 2.
+pub fn run(w: &mut [u32], operation: u32, x: u32, y: u32) -> Outcome
     requires { ⌜ Valid (now w) ⌝ }
     ensures { λ r. ⌜ written (now (w .entry)) (stepSpec (read (now (w .entry))) operation x y) ≡ record { outcome = r; slice = now (w .exit) } ⌝ }
 {

@@ -10,6 +10,7 @@ use lib.ListN.{length, getD, take, drop, length-drop, take-append-drop}
 use lib.Seq.{length-take-le, take-add, take-length}
 use Rattle.lists.specs.Basics.{if_then_else_, every, distinct, table}
 use Rattle.lists.specs.Tests.{and-true, and-false, true-T, says-same, says-so, says-as, says-and, says-eq, says-le}
+use Rattle.lists.specs.Blocks.{table-cong, map-table}
 use Rattle.lists.specs.Merge.{merged, or-test, every-append, merged-test, merged-zero, merged-zeros, failure-test, when-test}
 use Rattle.protocol.specs.declared.Message.{Message}
 use Rattle.protocol.specs.Names.{LOOKUP}
@@ -131,17 +132,6 @@ message-law n asked m a b ea eb = or-test a b ∙ ap₂ (λ x y. x && y) ea eb �
     go : (e : Bool) → (e && (aOk n m && bOk asked m && hopsOk m)) ≡ (e && aOk n m && bOk asked m && hopsOk m)
     go true = refl
     go false = refl
-
--- tables, value by value
-table-cong : {A : Type 0} (f g : ℕ → A) (n : ℕ) → ((i : ℕ) → i < n → f i ≡ g i) → table n f ≡ table n g
-unfolding table
-table-cong f g zero e = refl
-table-cong f g (suc n) e = ap₂ (λ l x. l ++ (x ∷ [])) (table-cong f g n (λ i h. e i (omega arith))) (e n (omega arith))
-
-map-table : {A B : Type 0} (f : A → B) (g : ℕ → A) (n : ℕ) → map f (table n g) ≡ table n (λ i. f (g i))
-unfolding table
-map-table f g zero = refl
-map-table f g (suc n) = map-append f (table n g) (g n ∷ []) ∙ ap (λ l. l ++ (f (g n) ∷ [])) (map-table f g n)
 
 -- The part of 'well formed' that is about rows: identifiers and each row.
 unfoldable pub nodesOk : State → Bool

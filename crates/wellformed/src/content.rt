@@ -60,7 +60,7 @@ fn merged_halves(first: &[u32], second: &[u32]) -> u32
 }
 
 // 0 where every word of the part is 0. A long part is read faster as two halves; what is left over is one word at most.
-fn bad_zeros(part: &[u32]) -> u32
+pub fn bad_zeros(part: &[u32]) -> u32
     ensures { λ r. ⌜ eqb r 0 ≡ every (λ x. eqb x 0) (now (part .entry)) ⌝ }
 {
     let half = part.len() / 2;

@@ -5,5 +5,6 @@ mod differ;
 mod message;
 mod row;
 
+pub use content::bad_zeros;
 pub use content::well_formed;
 pub use differ::repeated;

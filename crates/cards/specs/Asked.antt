@@ -1,0 +1,149 @@
+-- The questions of the calls in the words' terms, and what the step without cards leaves for the cards. Assumes nothing.
+use mathlib.Core.Path.{_≡_, refl, sym, _∙_, ap, subst}
+use mathlib.Core.Bool.{Bool, true, false}
+use mathlib.Core.List.{List, [], _∷_, _++_}
+use Prim.Native.Nat.{ℕ, zero, suc, _+_, _-_, _≤_, _<_}
+use native.Mathlib.Decide.{decLt}
+use native.Mathlib.Omega.{arith}
+use lib.Dec.{T, leb}
+use lib.ListN.{length, getD, set, take, drop, length-append, length-drop, length-take, take-append-drop, List·getD-append}
+use lib.Seq.{drop-at, ext-getD, getD-take, getD-drop, getD-append-add, length-take-le}
+use borrow.Author.Tests.{le-leb, lt-leb}
+use Rattle.lists.specs.Basics.{require}
+use Rattle.lists.specs.Choice.{on-yes, on-no}
+use Rattle.lists.specs.Tests.{true-T}
+use Rattle.protocol.specs.declared.Answer.{Answer}
+use Rattle.protocol.specs.declared.Outcome.{Outcome}
+use Rattle.protocol.specs.declared.Outcome.the-variants.{Refused, Answered}
+use Rattle.protocol.specs.Names.{NOT-WELL-FORMED, RECORD-SHORT}
+use Rattle.protocol.specs.Record.{round, mostNodes, recordSize, State, count, countIn, read, words}
+use Rattle.protocol.specs.WellFormed.{wellFormed, identifiers}
+use Rattle.protocol.specs.Step.{Result, refused, step}
+use Rattle.protocol.specs.Step.{accepted as went}
+use Rattle.protocol.specs.Calls.{long, Called, written, turnedDown, stepCall}
+use Rattle.protocol.specs.Cards.{bookSize, bookOk, CardsCalled, unchanged, bothLong, onBoth, afterCall}
+use Rattle.layout.specs.Words.{count-of-read}
+use Rattle.layout.specs.Form.{Valid, valid-form}
+use Rattle.layout.specs.Questions.{long-yes, long-no, record-rest}
+use Rattle.cardlayout.specs.Sound.{neat, form-of-book}
+use Rattle.cards.specs.Homes.{Copied, names-of, ids-size}
+use Rattle.cards.specs.Follow.{Ready}
+use Rattle.cards.specs.Movers.{Bound, Bounded, step-bounded}
+
+module _ (w k : List ℕ) (rest : CardsCalled) where
+  pub long-1 : length w < recordSize → bothLong w k rest ≡ unchanged w k RECORD-SHORT
+  unfolding bothLong
+  long-1 l = on-no _ _ _ (long-no w l)
+
+  pub long-cards-1 : recordSize ≤ length w → length k < bookSize → bothLong w k rest ≡ unchanged w k RECORD-SHORT
+  unfolding bothLong
+  long-cards-1 l m = on-yes _ _ _ (long-yes w l) ∙ on-no _ _ _ (lt-leb bookSize (length k) m)
+
+  pub long-rest : recordSize ≤ length w → bookSize ≤ length k → bothLong w k rest ≡ rest
+  unfolding bothLong
+  long-rest l m = on-yes _ _ _ (long-yes w l) ∙ on-yes _ _ _ (le-leb bookSize (length k) m)
+
+module _ (w k : List ℕ) (rest : CardsCalled) where
+  pub both-1 : length w < recordSize → onBoth w k rest ≡ unchanged w k RECORD-SHORT
+  unfolding onBoth
+  both-1 l = long-1 w k _ l
+
+  pub both-cards-1 : recordSize ≤ length w → length k < bookSize → onBoth w k rest ≡ unchanged w k RECORD-SHORT
+  unfolding onBoth
+  both-cards-1 l m = long-cards-1 w k _ l m
+
+  pub both-2 : recordSize ≤ length w → bookSize ≤ length k → wellFormed w ≡ false → onBoth w k rest ≡ unchanged w k NOT-WELL-FORMED
+  unfolding onBoth
+  both-2 l m e = long-rest w k _ l m ∙ on-no _ _ _ e
+
+  pub both-cards-2 : recordSize ≤ length w → bookSize ≤ length k → wellFormed w ≡ true → bookOk (identifiers (read w)) k ≡ false
+      → onBoth w k rest ≡ unchanged w k NOT-WELL-FORMED
+  unfolding onBoth
+  both-cards-2 l m e b = long-rest w k _ l m ∙ on-yes _ _ _ e ∙ on-no _ _ _ b
+
+  pub both-rest : recordSize ≤ length w → bookSize ≤ length k → wellFormed w ≡ true → bookOk (identifiers (read w)) k ≡ true → onBoth w k rest ≡ rest
+  unfolding onBoth
+  both-rest l m e b = long-rest w k _ l m ∙ on-yes _ _ _ e ∙ on-yes _ _ _ b
+
+-- What is known after the questions.
+pub ready : (w names k : List ℕ) → Valid w → Copied names (identifiers (read w)) → bookSize ≤ length k → bookOk (identifiers (read w)) k ≡ true
+    → ((i : ℕ) → getD w i 0 < round) → ((i : ℕ) → getD k i 0 < round) → Ready (identifiers (read w)) names k
+ready w names k v c l b sw sk = record {
+  few = omega (arith, ids-size w, v .nodes);
+  apart = names-of w (valid-form w v) sw;
+  copied = c;
+  neat = neat (identifiers (read w)) k l (true-T _ b);
+  form = form-of-book (identifiers (read w)) k (true-T _ b);
+  words = sk;
+}
+
+-- What a step writes keeps the later words, since it keeps the slice's length.
+pub tail-kept : (w slice : List ℕ) (o : Outcome) (r : Result) → recordSize ≤ length w → length slice ≡ length w
+    → written w r ≡ record { outcome = o; slice = slice } → drop recordSize slice ≡ drop recordSize w
+unfolding written
+tail-kept w slice o (refused z) l e q = ap (λ c. drop recordSize (c .slice)) (sym q)
+tail-kept w slice o (went a s) l e q =
+    let p : slice ≡ words s ++ drop recordSize w = sym (ap (λ c. c .slice) q) in
+    let n : length (words s) ≡ recordSize = omega (arith, e, ap length p, length-append (words s) (drop recordSize w), length-drop recordSize w) in
+    ap (drop recordSize) p ∙ drop-at (words s) (drop recordSize w) recordSize n
+
+-- the record as it was, put together again
+pub put-back : (w slice saved : List ℕ) → saved ≡ take recordSize w → drop recordSize slice ≡ drop recordSize w → saved ++ drop recordSize slice ≡ w
+put-back w slice saved e q = ap (λ z. z ++ drop recordSize slice) e ∙ ap (λ z. take recordSize w ++ z) q ∙ take-append-drop recordSize w
+
+-- the hub that an answer moves is one of the record's
+pub refused-answered : {number : ℕ} {a : Answer} → Refused number ≡ Answered a → ⊥
+refused-answered e = subst isRefused e tt
+  where
+    isRefused : Outcome → Type 0
+    isRefused = elim [ Refused j ↦ Unit {0} | Answered x ↦ ⊥ ]
+
+isBound : (w : List ℕ) (a : Answer) (r : Result) → Bounded (count (read w)) r → written w r .outcome ≡ Answered a → Bound (count (read w)) a
+unfolding written
+isBound w a (refused z) b e = absurd (refused-answered e)
+isBound w a (went x s) b e = subst (Bound (count (read w))) (ap answerIn e) b
+  where
+    answerIn : Outcome → Answer
+    answerIn = elim [ Refused j ↦ x | Answered y ↦ y ]
+
+pub answer-bound : (w slice : List ℕ) (operation x y : ℕ) (o : Outcome) (a : Answer) → Valid w → written w (step (read w) operation x y) ≡ record { outcome = o; slice = slice }
+    → o ≡ Answered a → Bound (length (identifiers (read w))) a
+answer-bound w slice operation x y o a v e g =
+    subst (λ z. Bound z a) (count-of-read w ∙ sym (ids-size w))
+    (isBound w a (step (read w) operation x y) (step-bounded (read w) (valid-form w v) operation x y) (ap (λ c. c .outcome) e ∙ g))
+
+-- a step with cards, where the step without them gave this
+pub after-law : (w k slice : List ℕ) (operation x y : ℕ) (o : Outcome) (z : CardsCalled) → Valid w
+    → written w (step (read w) operation x y) ≡ record { outcome = o; slice = slice } → afterCall w k slice o ≡ z
+    → afterCall w k (stepCall w operation x y .slice) (stepCall w operation x y .outcome) ≡ z
+unfolding stepCall
+after-law w k slice operation x y o z v e q =
+    ap (λ c. afterCall w k (c .slice) (c .outcome)) (record-rest w (turnedDown w) (written w (step (read w) operation x y)) (v .long) (v .formed) ∙ e) ∙ q
+
+-- copies of words
+pub saved-all : (w saved : List ℕ) → recordSize ≤ length w → length saved ≡ recordSize → ((j : ℕ) → j < recordSize → getD saved j 0 ≡ getD w j 0) → saved ≡ take recordSize w
+saved-all w saved l e f =
+    ext-getD 0 saved (take recordSize w) (e ∙ sym (length-take-le recordSize w l)) (λ i u. f i (omega arith) ∙ sym (getD-take recordSize w i 0 (omega arith)))
+
+pub restored-all : (w saved now : List ℕ) → length saved ≤ length w → length now ≡ length w → ((j : ℕ) → j < length saved → getD now j 0 ≡ getD saved j 0)
+    → ((j : ℕ) → length saved ≤ j → getD now j 0 ≡ getD w j 0) → now ≡ saved ++ drop (length saved) w
+restored-all w saved now l e f g =
+    ext-getD 0 now (saved ++ drop (length saved) w) (omega (arith, e, length-append saved (drop (length saved) w), length-drop (length saved) w)) (λ i u. go i (decLt i (length saved)))
+  where
+    go : (i : ℕ) → Dec (i < length saved) → getD now i 0 ≡ getD (saved ++ drop (length saved) w) i 0
+    go i (yes k) = f i k ∙ sym (List·getD-append saved (drop (length saved) w) 0 i k)
+    go i (no k) =
+        let q : length saved + (i - length saved) ≡ i = omega arith in
+        g i (omega arith)
+        ∙ ap (λ z. getD w z 0) (sym q) ∙ sym (getD-drop (length saved) w (i - length saved) 0)
+        ∙ sym (getD-append-add saved (drop (length saved) w) (i - length saved) 0) ∙ ap (λ z. getD (saved ++ drop (length saved) w) z 0) q
+
+-- a refused step has written nothing
+pub refused-kept : (w slice : List ℕ) (o : Outcome) (number : ℕ) (r : Result) → written w r ≡ record { outcome = o; slice = slice } → o ≡ Refused number → slice ≡ w
+unfolding written
+refused-kept w slice o number (refused z) e g = sym (ap (λ c. c .slice) e)
+refused-kept w slice o number (went a s) e g = absurd (refused-answered (sym (ap (λ c. c .outcome) e ∙ g)))
+
+pub came-back : (w slice saved : List ℕ) (o : Outcome) (r : Result) → recordSize ≤ length w → length slice ≡ length w
+    → written w r ≡ record { outcome = o; slice = slice } → saved ≡ take recordSize w → w ≡ saved ++ drop recordSize slice
+came-back w slice saved o r l n e q = sym (put-back w slice saved q (tail-kept w slice o r l n e))

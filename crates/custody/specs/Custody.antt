@@ -1,0 +1,130 @@
+-- 2026-04, stated: what is claimed of every list of steps with cards and offers, from every card slice that was made with its ring. Its proof is
+-- `custody` in Theorem.antt. It cites the definitions of `protocol`, those of demand 3 (Demand3.antt), and these few about lists of both calls.
+-- (From `lists`: All, of each element.)
+use mathlib.Core.Path.{_≡_}
+use mathlib.Core.Bool.{true}
+use mathlib.Core.List.{List, [], _∷_, map}
+use Prim.Native.Nat.{ℕ, _+_, _<_}
+use lib.Dec.{eqb}
+use lib.ListN.{getD}
+use Rattle.lists.specs.Basics.{if_then_else_, All}
+use Rattle.protocol.specs.declared.Card.{Card}
+use Rattle.protocol.specs.declared.Answer.the-variants.{Quiet}
+use Rattle.protocol.specs.declared.Outcome.{Outcome}
+use Rattle.protocol.specs.declared.Outcome.the-variants.{Refused, Answered}
+use Rattle.protocol.specs.Record.{mostNodes, read}
+use Rattle.protocol.specs.WellFormed.{identifiers}
+use Rattle.protocol.specs.Membership.{foundingMembers, mark, node, ownerAmong}
+use Rattle.protocol.specs.Calls.{freshByCall}
+use Rattle.protocol.specs.Cards.{cardStart, cardsIn, cardFrom, readBook, bookOk, CardsCalled, stepCards, offerCall, freshByCards}
+use Rattle.atomicity.specs.Demand3.{Call, Word, ThreeWords, Event, present, history, recordAfter, membersAfter, Claims}
+
+-- An offered card: its hub is not passed.
+pub record Offer : Type 0 where
+  pub machine : ℕ
+  pub revision : ℕ
+  pub price : ℕ
+
+-- A call of the list: a step with cards, or an offer; any numbers of 32 bits.
+pub data CardCall : Type 0 where
+  step : Call → CardCall
+  offer : Offer → CardCall
+
+abbrev pub InWords : CardCall → Type 0
+InWords (step c) = ThreeWords c
+InWords (offer o) = Word (o .machine) × Word (o .revision) × Word (o .price)
+
+abbrev pub made : List ℕ → List ℕ → CardCall → CardsCalled
+made w k (step c) = stepCards w k (c .operation) (c .x) (c .y)
+made w k (offer o) = offerCall w k (o .machine) (o .revision) (o .price)
+
+-- A call with what it gave.
+pub record CardEvent : Type 0 where
+  pub call : CardCall
+  pub outcome : Outcome
+
+-- Each gets both slices as the call before left them, after a refusal too.
+unfoldable pub cardHistory : List ℕ → List ℕ → List CardCall → List CardEvent
+cardHistory w k [] = []
+cardHistory w k (c ∷ calls) = record { call = c; outcome = made w k c .outcome } ∷ cardHistory (made w k c .slice) (made w k c .cards) calls
+
+unfoldable pub wordsAfter : List ℕ → List ℕ → List CardCall → List ℕ
+wordsAfter w k [] = w
+wordsAfter w k (c ∷ calls) = wordsAfter (made w k c .slice) (made w k c .cards) calls
+
+unfoldable pub cardsAfter : List ℕ → List ℕ → List CardCall → List ℕ
+cardsAfter w k [] = k
+cardsAfter w k (c ∷ calls) = cardsAfter (made w k c .slice) (made w k c .cards) calls
+
+-- The steps alone: their calls, and their events with cards.
+unfoldable pub steps : List CardCall → List Call
+steps [] = []
+steps (step c ∷ calls) = c ∷ steps calls
+steps (offer o ∷ calls) = steps calls
+
+abbrev pub stepEvent : CardCall → Outcome → List Event → List Event
+stepEvent (step c) outcome events = record { call = c; outcome = outcome } ∷ events
+stepEvent (offer o) outcome events = events
+
+unfoldable pub stepEvents : List CardEvent → List Event
+stepEvents [] = []
+stepEvents (e ∷ events) = stepEvent (e .call) (e .outcome) (stepEvents events)
+
+-- The ledger, which knows nothing of cards.
+abbrev pub ledger : ℕ → List CardEvent → List ℕ
+ledger founder events = membersAfter (foundingMembers founder) (stepEvents events)
+
+-- A plain list of prices, without hubs: an offer takes the place of its machine's, or goes last.
+unfoldable pub put : List Offer → Offer → List Offer
+put [] o = o ∷ []
+put (x ∷ prices) o = if eqb (x .machine) (o .machine) then o ∷ prices else x ∷ put prices o
+
+-- It is fed by the accepted offers alone.
+abbrev pub pricesThen : List Offer → CardCall → Outcome → List Offer
+pricesThen prices (step c) outcome = prices
+pricesThen prices (offer o) (Refused number) = prices
+pricesThen prices (offer o) (Answered a) = put prices o
+
+unfoldable pub pricesAfter : List Offer → List CardEvent → List Offer
+pricesAfter prices [] = prices
+pricesAfter prices (e ∷ events) = pricesAfter (pricesThen prices (e .call) (e .outcome)) events
+
+abbrev pub priced : Card → Offer
+priced c = record { machine = c .machine; revision = c .revision; price = c .price }
+
+-- A record and a card slice that were made together, with the calls behind them: any two lent slices, any identifiers and any founder that
+-- fresh with cards accepts, and any list of steps and offers, refused ones included, each lent both. Where the caller names no founder, it is
+-- the hub of the smallest identifier (`freshCards`).
+pub record Lent (ids : List ℕ) (founder : ℕ) (events : List CardEvent) (w k : List ℕ) : Type 0 where
+  pub slice : List ℕ
+  pub book : List ℕ
+  pub calls : List CardCall
+  pub small : All Word ids
+  pub commands : All InWords calls
+  pub accepted : freshByCards slice book ids founder .outcome ≡ Answered Quiet
+  pub happened : events ≡ cardHistory (freshByCards slice book ids founder .slice) (freshByCards slice book ids founder .cards) calls
+  pub is-record : w ≡ wordsAfter (freshByCards slice book ids founder .slice) (freshByCards slice book ids founder .cards) calls
+  pub is-cards : k ≡ cardsAfter (freshByCards slice book ids founder .slice) (freshByCards slice book ids founder .cards) calls
+
+-- What is claimed of a ring of these identifiers that this hub founded, with these events behind it, the record w and the card slice k.
+-- `bare` is the record that fresh without cards writes, and `alone` the steps alone.
+pub record CardClaims (ids : List ℕ) (founder : ℕ) (bare : List ℕ) (alone : List Call) (events : List CardEvent) (w k : List ℕ) : Type 0 where
+  -- (a) The member words are the ledger.
+  pub members : (hub : ℕ) → hub < mostNodes → getD k (1 + hub) 0 ≡ mark (ledger founder events) hub
+  -- (b) Each card is with the ledger's owner of its machine.
+  pub held : (j : ℕ) → j < cardsIn k
+      → ownerAmong ids (ledger founder events) (cardFrom k (cardStart j) .machine) ≡ node (cardFrom k (cardStart j) .hub)
+  -- (c) Cards are neither lost nor doubled: they are what the accepted offers alone give, in order.
+  pub prices : map priced (readBook k .cards) ≡ pricesAfter [] events
+  -- (d) The slice is well formed beside its record, so the next call is not refused by the cards' 2; among the rest, machines differ.
+  pub formed : bookOk (identifiers (read w)) k ≡ true
+  -- (e) Cards change nothing of the steps: outcomes and record are those without cards. So the last question refuses none of them.
+  pub outcomes : stepEvents events ≡ history present bare alone
+  pub same : w ≡ recordAfter present bare alone
+  -- (f) Demand 3's claims hold of them.
+  pub claims : Claims present ids founder (stepEvents events) w
+
+unfoldable pub Custody : Type 0
+Custody =
+    (ids : List ℕ) (founder : ℕ) (events : List CardEvent) (w k : List ℕ) (r : Lent ids founder events w k)
+    → CardClaims ids founder (freshByCall (r .slice) ids founder .slice) (steps (r .calls)) events w k

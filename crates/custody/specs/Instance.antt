@@ -1,0 +1,52 @@
+-- The premises of the theorem can be met: a ring of the identifiers 200 and 100 with its cards, in any two slices that are long enough, whichever of
+-- the two hubs is named as the founder; and where none is named, hub 1 is it. Assumes nothing.
+use mathlib.Core.Path.{_≡_, refl, _∙_, ap}
+use mathlib.Core.List.{List}
+use Prim.Native.Nat.{ℕ, _≤_}
+use native.Mathlib.Omega.{arith}
+use lib.Dec.{T, ltb, le→leb}
+use lib.ListN.{length}
+use Rattle.lists.specs.Basics.{if_then_else_, All, every, first, distinct}
+use Rattle.lists.specs.Choice.{granted}
+use Rattle.protocol.specs.declared.Answer.the-variants.{Quiet}
+use Rattle.protocol.specs.declared.Outcome.the-variants.{Answered}
+use Rattle.protocol.specs.Record.{recordSize}
+use Rattle.protocol.specs.Fresh.{smallest}
+use Rattle.protocol.specs.Calls.{long, freshByCall}
+use Rattle.protocol.specs.Cards.{bookSize, CardsCalled, bothLong, withNewBook, freshByCards, freshCards}
+use Rattle.atomicity.specs.Instance.{two}
+use Rattle.atomicity.specs.Record.{fresh-gives}
+use Rattle.custody.specs.Custody.{CardCall, InWords, cardHistory, wordsAfter, cardsAfter, steps, CardClaims, Custody}
+use Rattle.custody.specs.Theorem.{custody}
+
+-- What is claimed of the slices that a fresh call with cards left, after any list of steps and offers.
+abbrev pub Going : CardsCalled → List ℕ → ℕ → List CardCall → Type 0
+Going begun slice founder calls =
+    CardClaims two founder (freshByCall slice two founder .slice) (steps calls)
+    (cardHistory (begun .slice) (begun .cards) calls) (wordsAfter (begun .slice) (begun .cards) calls) (cardsAfter (begun .slice) (begun .cards) calls)
+
+module _ (slice book : List ℕ) (l : recordSize ≤ length slice) (m : bookSize ≤ length book) (calls : List CardCall) (a : All InWords calls) where
+  accepted : (founder : ℕ) → T (ltb founder 2) → freshByCards slice book two founder .outcome ≡ Answered Quiet
+  unfolding freshByCards bothLong long withNewBook distinct every
+  accepted founder below =
+      granted (λ (z : CardsCalled). z .outcome ≡ Answered Quiet) _ _ _ (le→leb _ _ l)
+      (granted (λ (z : CardsCalled). z .outcome ≡ Answered Quiet) _ _ _ (le→leb _ _ m)
+      (ap (λ z. withNewBook slice book founder (z .slice) (z .outcome) .outcome) (fresh-gives slice two founder l below tt tt)))
+
+  pub two-hubs-with-cards : (founder : ℕ) → T (ltb founder 2) → Going (freshByCards slice book two founder) slice founder calls
+  unfolding Custody
+  two-hubs-with-cards founder below = custody two founder _ _ _ (record {
+    slice = slice;
+    book = book;
+    calls = calls;
+    small = (omega arith, (omega arith, tt));
+    commands = a;
+    accepted = accepted founder below;
+    happened = refl;
+    is-record = refl;
+    is-cards = refl;
+  })
+
+  pub two-hubs-with-cards-none-named : Going (freshCards slice book two) slice 1 calls
+  unfolding smallest first every if_then_else_
+  two-hubs-with-cards-none-named = two-hubs-with-cards 1 tt

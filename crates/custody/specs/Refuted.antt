@@ -1,0 +1,84 @@
+-- Each claim about cards can be false: for each of them events and slices that it rules out. None of these can be reached; a claim that was weakened
+-- would no longer rule out its case, and the case's proof would fail (tests/mutants tries that). The ring has the identifiers 100 and 200, hub 0
+-- founded it, and nothing has happened unless a case says so. Assumes nothing.
+use mathlib.Core.Path.{_≡_, ap}
+use mathlib.Core.List.{List, [], _∷_, _++_}
+use Prim.Native.Nat.{ℕ}
+use native.Mathlib.Omega.{arith}
+use lib.ListN.{length, replicate}
+use Rattle.lists.specs.Basics.{if_then_else_, require, every, table}
+use Rattle.lists.specs.Tests.{true-T}
+use Rattle.protocol.specs.declared.Answer.the-variants.{Quiet}
+use Rattle.protocol.specs.declared.Outcome.the-variants.{Refused, Answered}
+use Rattle.protocol.specs.Names.{NOT-WELL-FORMED}
+use Rattle.protocol.specs.Calls.{long, onRecord, stepCall}
+use Rattle.protocol.specs.Answers.{refusal}
+use Rattle.protocol.specs.Membership.{nearer, ownerAmong, mark}
+use Rattle.protocol.specs.Cards.{hubOf, readBook, markedFrom, marksOk, bookOk}
+use Rattle.atomicity.specs.Demand3.{Call, Event, history, recordAfter, membersAfter}
+use Rattle.custody.specs.Custody.{CardEvent, step, offer, stepEvents, put, pricesAfter, CardClaims}
+
+abbrev two : List ℕ
+two = 100 ∷ 200 ∷ []
+
+-- A card slice: the first two marks, and the words of the cards.
+abbrev slice : ℕ → ℕ → ℕ → List ℕ → List ℕ
+slice count first second cards = count ∷ first ∷ second ∷ (replicate 62 0 ++ cards)
+
+abbrev founded : List ℕ → Type 0
+founded k = CardClaims two 0 [] [] [] [] k
+
+-- (a) Hub 1 is marked, and has not entered; or nobody is.
+pub stranger-marked : founded (slice 0 1 1 []) → ⊥
+unfolding mark membersAfter stepEvents if_then_else_
+stranger-marked c = let e = c .members 1 (omega arith) in omega (arith, e)
+
+pub founder-not-marked : founded (slice 0 0 0 []) → ⊥
+unfolding mark membersAfter stepEvents if_then_else_
+founder-not-marked c = let e = c .members 0 (omega arith) in omega (arith, e)
+
+-- (b) Of two cards the second is with hub 1, which has not entered.
+pub with-a-stranger : founded (slice 2 1 0 (7 ∷ 1 ∷ 50 ∷ 0 ∷ 8 ∷ 1 ∷ 50 ∷ 1 ∷ [])) → ⊥
+unfolding ownerAmong nearer membersAfter stepEvents hubOf
+with-a-stranger c = let e = ap hubOf (c .held 1 (omega arith)) in omega (arith, e)
+
+-- (c) A card that nobody offered; one that was offered, accepted, and is lost; and one that was offered once and is kept twice.
+abbrev offered : CardEvent
+offered = record { call = offer (record { machine = 7; revision = 1; price = 50 }); outcome = Answered Quiet }
+
+abbrev once : List ℕ → Type 0
+once k = CardClaims two 0 [] [] (offered ∷ []) [] k
+
+pub card-invented : founded (slice 1 1 0 (7 ∷ 1 ∷ 50 ∷ 0 ∷ [])) → ⊥
+unfolding readBook table pricesAfter
+card-invented c = let e = ap length (c .prices) in omega (arith, e)
+
+pub card-lost : once (slice 0 1 0 []) → ⊥
+unfolding readBook table pricesAfter put
+card-lost c = let e = ap length (c .prices) in omega (arith, e)
+
+pub card-doubled : once (slice 2 1 0 (7 ∷ 1 ∷ 50 ∷ 0 ∷ 7 ∷ 1 ∷ 50 ∷ 0 ∷ [])) → ⊥
+unfolding readBook table pricesAfter put
+card-doubled c = let e = ap length (c .prices) in omega (arith, e)
+
+-- (d) No mark at all.
+pub nobody-marked : founded [] → ⊥
+unfolding bookOk marksOk markedFrom every
+nobody-marked c = true-T _ (c .formed)
+
+
+-- (e) A step that is refused by 2 with cards, and by 1 without them (the record is empty); and a record that is not the one without cards.
+abbrev leaving : Call
+leaving = record { operation = 2; x = 0; y = 0 }
+
+number : List Event → ℕ
+number [] = 0
+number (e ∷ events) = refusal (e .outcome)
+
+pub refused-by-the-cards : CardClaims two 0 [] (leaving ∷ []) (record { call = step leaving; outcome = Refused NOT-WELL-FORMED } ∷ []) [] [] → ⊥
+unfolding stepEvents history number refusal stepCall onRecord long require if_then_else_
+refused-by-the-cards c = let e = ap number (c .outcomes) in omega (arith, e)
+
+pub record-differs : CardClaims two 0 [] [] [] (1 ∷ []) [] → ⊥
+unfolding recordAfter
+record-differs c = let e = ap length (c .same) in omega (arith, e)

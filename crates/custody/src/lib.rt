@@ -1,0 +1,1 @@
+// Every card is with the ledger's owner over every list of steps and offers: the theorem about the meaning in `protocol`; no code.
