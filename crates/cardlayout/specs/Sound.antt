@@ -48,7 +48,7 @@ says-cards ids b =
     (says-every (λ c. eqb (c .hub) (home ids (marked (b .marks)) (c .machine))) (λ c. c .hub ≡ home ids (marked (b .marks)) (c .machine))
     (λ c. says-eq (c .hub) (home ids (marked (b .marks)) (c .machine))) (b .cards))
 
-abbrev Zero : List ℕ → Type 0
+abbrev pub Zero : List ℕ → Type 0
 Zero l = (x : ℕ) → Mem x l → x ≡ 0
 
 pub says-book : (ids k : List ℕ)
@@ -68,7 +68,7 @@ pub form-of-book : (ids k : List ℕ) → T (bookOk ids k) → BookForm ids (rea
 unfolding readBook
 form-of-book ids k t = let s = says-book ids k .to t in record { marks = s .0 .0 .1; differ = s .1 .0; homes = s .1 .1 }
 
-zero-padding : (n : ℕ) → Zero (replicate n 0)
+pub zero-padding : (n : ℕ) → Zero (replicate n 0)
 zero-padding zero x k = absurd k
 zero-padding (suc n) x (inl e) = e
 zero-padding (suc n) x (inr k) = zero-padding n x k

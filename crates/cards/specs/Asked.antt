@@ -26,56 +26,9 @@ use Rattle.layout.specs.Words.{count-of-read}
 use Rattle.layout.specs.Form.{Valid, valid-form}
 use Rattle.layout.specs.Questions.{long-yes, long-no, record-rest}
 use Rattle.cardlayout.specs.Sound.{neat, form-of-book}
-use Rattle.cards.specs.Homes.{Copied, names-of, ids-size}
-use Rattle.cards.specs.Follow.{Ready}
+use Rattle.card_checks.specs.Homes.{Copied, names-of, ids-size}
+use Rattle.card_checks.specs.Ready.{Ready}
 use Rattle.cards.specs.Movers.{Bound, Bounded, step-bounded}
-
-module _ (w k : List ℕ) (rest : CardsCalled) where
-  pub long-1 : length w < recordSize → bothLong w k rest ≡ unchanged w k RECORD-SHORT
-  unfolding bothLong
-  long-1 l = on-no _ _ _ (long-no w l)
-
-  pub long-cards-1 : recordSize ≤ length w → length k < bookSize → bothLong w k rest ≡ unchanged w k RECORD-SHORT
-  unfolding bothLong
-  long-cards-1 l m = on-yes _ _ _ (long-yes w l) ∙ on-no _ _ _ (lt-leb bookSize (length k) m)
-
-  pub long-rest : recordSize ≤ length w → bookSize ≤ length k → bothLong w k rest ≡ rest
-  unfolding bothLong
-  long-rest l m = on-yes _ _ _ (long-yes w l) ∙ on-yes _ _ _ (le-leb bookSize (length k) m)
-
-module _ (w k : List ℕ) (rest : CardsCalled) where
-  pub both-1 : length w < recordSize → onBoth w k rest ≡ unchanged w k RECORD-SHORT
-  unfolding onBoth
-  both-1 l = long-1 w k _ l
-
-  pub both-cards-1 : recordSize ≤ length w → length k < bookSize → onBoth w k rest ≡ unchanged w k RECORD-SHORT
-  unfolding onBoth
-  both-cards-1 l m = long-cards-1 w k _ l m
-
-  pub both-2 : recordSize ≤ length w → bookSize ≤ length k → wellFormed w ≡ false → onBoth w k rest ≡ unchanged w k NOT-WELL-FORMED
-  unfolding onBoth
-  both-2 l m e = long-rest w k _ l m ∙ on-no _ _ _ e
-
-  pub both-cards-2 : recordSize ≤ length w → bookSize ≤ length k → wellFormed w ≡ true → bookOk (identifiers (read w)) k ≡ false
-      → onBoth w k rest ≡ unchanged w k NOT-WELL-FORMED
-  unfolding onBoth
-  both-cards-2 l m e b = long-rest w k _ l m ∙ on-yes _ _ _ e ∙ on-no _ _ _ b
-
-  pub both-rest : recordSize ≤ length w → bookSize ≤ length k → wellFormed w ≡ true → bookOk (identifiers (read w)) k ≡ true → onBoth w k rest ≡ rest
-  unfolding onBoth
-  both-rest l m e b = long-rest w k _ l m ∙ on-yes _ _ _ e ∙ on-yes _ _ _ b
-
--- What is known after the questions.
-pub ready : (w names k : List ℕ) → Valid w → Copied names (identifiers (read w)) → bookSize ≤ length k → bookOk (identifiers (read w)) k ≡ true
-    → ((i : ℕ) → getD w i 0 < round) → ((i : ℕ) → getD k i 0 < round) → Ready (identifiers (read w)) names k
-ready w names k v c l b sw sk = record {
-  few = omega (arith, ids-size w, v .nodes);
-  apart = names-of w (valid-form w v) sw;
-  copied = c;
-  neat = neat (identifiers (read w)) k l (true-T _ b);
-  form = form-of-book (identifiers (read w)) k (true-T _ b);
-  words = sk;
-}
 
 -- What a step writes keeps the later words, since it keeps the slice's length.
 pub tail-kept : (w slice : List ℕ) (o : Outcome) (r : Result) → recordSize ≤ length w → length slice ≡ length w

@@ -18,24 +18,10 @@ use Rattle.layout.specs.Owners.{Names}
 use Rattle.cardlayout.specs.Marks.{Marked}
 use Rattle.cardlayout.specs.Reach.{reach, below-off}
 use Rattle.cardlayout.specs.Books.{Fits, Neat, withMark, read-fits, book-read, read-book, mark-is, marks-read, drop-book, long-book, count-book, unused-read, count-of-book}
-use Rattle.cardlayout.specs.Sound.{MarksForm, BookForm}
-use Rattle.cards.specs.Marks.{marks-size, mark-at}
-use Rattle.cards.specs.Homes.{Copied, reach-same, nearest, nearest-home}
+use Rattle.cardlayout.specs.Sound.{MarksForm, BookForm, zero-padding}
+use Rattle.card_checks.specs.Marks.{marks-size, mark-at}
+use Rattle.card_checks.specs.Homes.{Copied, reach-same, nearest, nearest-home}
 use Rattle.cards.specs.Moves.{handed, entered-cards, left-cards, stay-cards}
-
--- What a call knows of the cards after the questions: ids are the record's identifiers, names their copy.
-pub record Ready (ids names k : List ℕ) : Type 0 where
-  pub few : length ids ≤ mostNodes
-  pub apart : Names ids
-  pub copied : Copied names ids
-  pub neat : Neat k
-  pub form : BookForm ids (readBook k)
-  pub words : (i : ℕ) → getD k i 0 < round
-
-zero-padding : (n : ℕ) (x : ℕ) → Mem x (replicate n 0) → x ≡ 0
-zero-padding zero x k = absurd k
-zero-padding (suc n) x (inl e) = e
-zero-padding (suc n) x (inr k) = zero-padding n x k
 
 -- the words of a book are neat
 pub words-neat : (b : Book) (t : List ℕ) → Fits b → Neat (bookWords b ++ t)

@@ -1,10 +1,5 @@
-pub mod Hashing
-pub mod Marks
-pub mod Homes
 pub mod Moves
 pub mod Follow
-pub mod Content
 pub mod Movers
 pub mod Asked
-pub mod Offers
 pub mod New

@@ -1,9 +1,10 @@
 -- The fresh call with cards, in the words' terms. Assumes nothing.
 use mathlib.Core.Path.{_≡_, refl, sym, _∙_, ap, subst}
-use mathlib.Core.List.{List}
-use Prim.Native.Nat.{ℕ, _≤_, _<_}
+use mathlib.Core.List.{List, [], _∷_, _++_}
+use Prim.Native.Nat.{ℕ, _+_, _≤_, _<_}
+use native.Mathlib.Numerals.{one-add}
 use native.Mathlib.Omega.{arith}
-use lib.ListN.{length}
+use lib.ListN.{length, set, drop, replicate, replicate-append-replicate, length-replicate}
 use borrow.Author.Tests.{le-leb, lt-leb}
 use Rattle.lists.specs.Choice.{on-yes, on-no}
 use Rattle.protocol.specs.declared.Answer.{Answer}
@@ -12,9 +13,11 @@ use Rattle.protocol.specs.declared.Outcome.the-variants.{Refused, Answered}
 use Rattle.protocol.specs.Names.{RECORD-SHORT}
 use Rattle.protocol.specs.Record.{mostNodes, recordSize}
 use Rattle.protocol.specs.Calls.{Called, written, freshByCall}
-use Rattle.protocol.specs.Cards.{bookSize, CardsCalled, unchanged, newBook, bothLong, putBook, withNewBook, freshByCards}
+use Rattle.protocol.specs.Cards.{bookSize, Book, bookWords, CardsCalled, unchanged, newBook, bothLong, putBook, withNewBook, freshByCards}
 use Rattle.layout.specs.Questions.{long-yes, long-no, fresh-cases}
-use Rattle.cards.specs.Asked.{refused-answered, long-1, long-cards-1, long-rest}
+use Rattle.cardlayout.specs.Books.{mark-is}
+use Rattle.card_checks.specs.Ready.{long-1, long-cards-1, long-rest}
+use Rattle.cards.specs.Asked.{refused-answered}
 
 -- What a fresh call leaves where it refuses, and where it answers.
 module _ (w ids : List ℕ) (founder : ℕ) where
@@ -53,3 +56,18 @@ module _ (w k ids : List ℕ) (founder : ℕ) where
     unfolding withNewBook
     new-made a g hub h out q =
         rest ∙ ap (withNewBook w k founder slice) g ∙ ap (λ z. record { outcome = Answered a; slice = slice; cards = z }) (sym (q ∙ ap (λ z. putBook k (newBook z)) h))
+
+-- A new book, written over cleared words.
+abbrev empty : Book
+empty = record { marks = replicate mostNodes 0; cards = [] }
+
+empty-is : bookWords empty ≡ replicate bookSize 0
+unfolding bookWords
+empty-is = ap (λ l. 0 ∷ l) (replicate-append-replicate {A = ℕ} mostNodes 2048 0)
+
+pub new-law : (k : List ℕ) (hub : ℕ) → hub < mostNodes → set (replicate bookSize 0 ++ drop bookSize k) (1 + hub) 1 ≡ putBook k (newBook hub)
+unfolding putBook newBook
+new-law k hub l =
+    ap (λ z. set (z ++ drop bookSize k) (1 + hub) 1) (sym empty-is)
+    ∙ ap (λ z. set (bookWords empty ++ drop bookSize k) z 1) (one-add hub)
+    ∙ mark-is empty (drop bookSize k) (record { marks = length-replicate {A = ℕ} mostNodes 0; cards = omega arith }) hub 1 l

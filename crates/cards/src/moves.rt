@@ -1,8 +1,7 @@
 // Cards change hub: a node that is marked gets the machines within its reach, a node whose mark is taken away gives them to the next.
-
-use crate::owners::nearest;
-use crate::owners::pick_word;
-use crate::owners::reach;
+use card_checks::nearest;
+use card_checks::pick_word;
+use card_checks::reach;
 use clockwise::distance;
 use protocol::form::CARD_WORDS;
 use protocol::form::CARDS_AT;
@@ -18,7 +17,7 @@ ghost use Rattle.protocol.specs.Cards.{bookSize, cardsIn, marksIn, readBook, ma
 ghost use Rattle.layout.specs.Owners.{Names};
 ghost use Rattle.cardlayout.specs.Marks.{Marked};
 ghost use Rattle.cardlayout.specs.Books.{Neat};
-ghost use Rattle.cards.specs.Follow.{Ready};
+ghost use Rattle.card_checks.specs.Ready.{Ready};
 ghost use Rattle.cards.specs.Moves.{handed};
 
 // The m cards: each whose machine is at most `far` before the identifier gets the hub.

@@ -1,11 +1,11 @@
 // The step that takes the cards along: the step on the record, and what its answer does to the cards.
-use crate::content::book_ok;
-use crate::marks::others;
 use crate::moves::enter;
 use crate::moves::leave;
-use crate::owners::names_of;
 use crate::undo::restore;
 use crate::undo::save;
+use card_checks::book_ok;
+use card_checks::names_of;
+use card_checks::others;
 use protocol::Answer;
 use protocol::Outcome;
 use protocol::form::BOOK_WORDS;
@@ -24,7 +24,7 @@ ghost use Rattle.protocol.specs.Calls.{stepCall};
 ghost use Rattle.protocol.specs.Cards.{following, afterCall, stepCards};
 ghost use Rattle.layout.specs.Form.{Valid};
 ghost use Rattle.cardlayout.specs.Books.{Neat};
-ghost use Rattle.cards.specs.Follow.{Ready};
+ghost use Rattle.card_checks.specs.Ready.{Ready};
 ghost use Rattle.cards.specs.Movers.{Bound};
 
 // A gone answer. Where it would strike off the only member, the record is put back: w₀ is the record as it came.

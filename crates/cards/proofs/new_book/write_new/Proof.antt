@@ -3,7 +3,7 @@ use mathlib.Core.Path.{_≡_, refl, sym, _∙_, ap}
 use native.Mathlib.Omega.{arith}
 use Prim.Native.Nat.{_+_}
 use lib.ListN.{set}
-use Rattle.cards.specs.Offers.{new-law}
+use Rattle.cards.specs.New.{new-law}
 use borrow.Author.Needs.{needs}
 use Rattle.cards.proofs.new_book.write_new.Statement.{statement}
 use Rattle.cards.proofs.new_book.write_new.Tie as tie

@@ -12,7 +12,7 @@ use Rattle.protocol.specs.declared.Outcome.the-variants.{Refused, Answered}
 use Rattle.protocol.specs.Record.{read}
 use Rattle.protocol.specs.WellFormed.{identifiers}
 use Rattle.protocol.specs.Cards.{CardsCalled, marksIn, following}
-use Rattle.cards.specs.Marks.{some-marked, any-law, others-law}
+use Rattle.card_checks.specs.Marks.{some-marked, any-law, others-law}
 use Rattle.cards.specs.Follow.{off-bits}
 use borrow.Author.Needs.{needs}
 use Rattle.cards.proofs.perform.depart.Statement.{statement}

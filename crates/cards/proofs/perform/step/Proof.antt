@@ -5,7 +5,7 @@ use borrow.Author.Tests.{not-true, not-false}
 use Rattle.protocol.specs.Calls.{stepCall}
 use Rattle.protocol.specs.Cards.{afterCall, stepCards}
 use Rattle.layout.specs.Form.{valid}
-use Rattle.cards.specs.Asked.{both-1, both-cards-1, both-2, both-cards-2, both-rest, ready}
+use Rattle.card_checks.specs.Ready.{both-1, both-cards-1, both-2, both-cards-2, both-rest, ready}
 use borrow.Author.Needs.{needs}
 use Rattle.cards.proofs.perform.step.Statement.{statement}
 use Rattle.cards.proofs.perform.step.Tie as tie

@@ -1,0 +1,6 @@
+pub mod Buckets
+pub mod Digits
+pub mod Marks
+pub mod Homes
+pub mod Content
+pub mod Ready

@@ -1,0 +1,102 @@
+// Do the machines of the cards differ? By their digits of four bits, from the lowest: cards whose machines have the same digits so far are a group, and
+// each of eight passes parts the groups by one digit more. Linear in the cards, whatever their machines are. `rest` has what is left of each machine,
+// `groups` one more than the first card of each card's group.
+use lists::failure;
+use protocol::form::CARD_WORDS;
+use protocol::form::CARDS_AT;
+ghost use mathlib.Core.Path.{_≡_};
+ghost use Prim.Native.Nat.{ℕ, _+_, _≤_, _<_};
+ghost use lib.Dec.{eqb};
+ghost use lib.ListN.{length, getD};
+ghost use Rattle.lists.specs.Basics.{if_then_else_, table, distinct};
+ghost use Rattle.lists.specs.Merge.{merged};
+ghost use Rattle.protocol.specs.Cards.{mostCards, bookSize, cardStart};
+ghost use Rattle.card_checks.specs.Digits.{slotCount, Parted, Grouped};
+
+// A slot for each group and digit.
+const SLOTS: usize = 8208;
+
+// The machines of the first m cards, side by side.
+fn copy_machines(k: &[u32], m: usize, side: &mut [u32])
+    requires { ⌜ (m ≤ mostCards) × (bookSize ≤ length (now k)) × (mostCards ≤ length (now side)) ⌝ }
+    ensures { λ _. ⌜ ((j : ℕ) → j < m → getD (now (side .exit)) j 0 ≡ getD (now (k .entry)) (cardStart j) 0) ⌝ }
+{
+    let mut j = 0;
+    while j < m {
+        side[j] = k[CARDS_AT + CARD_WORDS * j];
+        j += 1;
+    }
+}
+
+// The first card that came to a slot, or this one where none did; each as one more than its place.
+fn first_come(seen: u16, i: usize) -> u16
+    requires { ⌜ i < mostCards ⌝ }
+    ensures { λ r. ⌜ r ≡ (if eqb seen 0 then i + 1 else seen) ⌝ }
+{
+    if seen == 0 {
+        return (i + 1) as u16;
+    }
+    seen
+}
+
+// One pass over the first m cards. The slots come empty.
+fn part(rest: &mut [u32], groups: &mut [u32], slots: &mut [u16], m: usize)
+    requires { ⌜ (m ≤ mostCards) × (m ≤ length (now rest)) × (m ≤ length (now groups)) × (length (now slots) ≡ slotCount) × ((b : ℕ) → b < slotCount → getD (now slots) b 0 ≡ 0) × ((j : ℕ) → j < m → getD (now groups) j 0 ≤ mostCards) ⌝ }
+    ensures { λ _. ⌜ Parted m (now (rest .entry)) (now (groups .entry)) (now (rest .exit)) (now (groups .exit)) ⌝ }
+{
+    let mut i = 0;
+    while i < m {
+        let left = rest[i];
+        let slot = (groups[i] * 16 + left % 16) as usize;
+        let first = first_come(slots[slot], i);
+        slots[slot] = first;
+        groups[i] = first as u32;
+        rest[i] = left / 16;
+        i += 1;
+    }
+}
+
+fn part_once(rest: &mut [u32], groups: &mut [u32], m: usize)
+    requires { ⌜ (m ≤ mostCards) × (m ≤ length (now rest)) × (m ≤ length (now groups)) × ((j : ℕ) → j < m → getD (now groups) j 0 ≤ mostCards) ⌝ }
+    ensures { λ _. ⌜ Parted m (now (rest .entry)) (now (groups .entry)) (now (rest .exit)) (now (groups .exit)) ⌝ }
+{
+    let mut slots = [0u16; SLOTS];
+    part(rest, groups, &mut slots, m);
+}
+
+// All eight passes: afterwards the cards of a group have the same machine.
+fn part_all(rest: &mut [u32], groups: &mut [u32], m: usize)
+    requires { ⌜ (m ≤ mostCards) × (m ≤ length (now rest)) × (m ≤ length (now groups)) × Grouped (λ j. getD (now rest) j 0) m 8 (now rest) (now groups) ⌝ }
+    ensures { λ _. ⌜ Grouped (λ j. getD (now (rest .entry)) j 0) m 0 (now (rest .exit)) (now (groups .exit)) ⌝ }
+{
+    let mut left: u32 = 8;
+    while 0 < left {
+        part_once(rest, groups, m);
+        left -= 1;
+    }
+}
+
+// 0 where each of the first m cards is the first of its group.
+fn followers(groups: &[u32], m: usize) -> u32
+    requires { ⌜ (m ≤ mostCards) × (m ≤ length (now groups)) ⌝ }
+    ensures { λ r. ⌜ r ≡ merged m (λ i. if eqb (getD (now (groups .entry)) i 0) (i + 1) then 0 else 1) ⌝ }
+{
+    let mut bad: u32 = 0;
+    let mut i = 0;
+    while i < m {
+        bad |= failure(groups[i] == (i + 1) as u32);
+        i += 1;
+    }
+    bad
+}
+
+pub(crate) fn by_digits(k: &[u32], m: usize) -> bool
+    requires { ⌜ (m ≤ mostCards) × (bookSize ≤ length (now k)) ⌝ }
+    ensures { λ r. ⌜ r ≡ distinct (table m (λ j. getD (now (k .entry)) (cardStart j) 0)) ⌝ }
+{
+    let mut rest = [0u32; 512];
+    copy_machines(k, m, &mut rest);
+    let mut groups = [1u32; 512];
+    part_all(&mut rest, &mut groups, m);
+    followers(&groups, m) == 0
+}
