@@ -19,6 +19,7 @@ use Rattle.cardlayout.specs.Marks.{Marked}
 use Rattle.cardlayout.specs.Reach.{reach, below-off}
 use Rattle.cardlayout.specs.Books.{Fits, Neat, withMark, read-fits, book-read, read-book, mark-is, marks-read, drop-book, long-book, count-book, unused-read, count-of-book}
 use Rattle.cardlayout.specs.Sound.{MarksForm, BookForm, zero-padding}
+use Rattle.card_checks.specs.Ready.{Ready}
 use Rattle.card_checks.specs.Marks.{marks-size, mark-at}
 use Rattle.card_checks.specs.Homes.{Copied, reach-same, nearest, nearest-home}
 use Rattle.cards.specs.Moves.{handed, entered-cards, left-cards, stay-cards}

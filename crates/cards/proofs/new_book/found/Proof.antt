@@ -1,59 +1,55 @@
+-- `found`: the questions, the ring, then its cards. Assumes nothing.
+use native.Mathlib.Omega.{arith}
+use Rattle.protocol.specs.Fresh.{founderOf}
+use Rattle.cards.specs.New.{fresh-below, new-1, new-cards-1, new-refused, new-made}
 use borrow.Author.Needs.{needs}
 use Rattle.cards.proofs.new_book.found.Statement.{statement}
 use Rattle.cards.proofs.new_book.found.Tie as tie
-use Rattle.cards.proofs.new_book.found.Reads as reads
-use Rattle.cards.proofs.new_book.found.Lts as lts
-use Rattle.cards.proofs.new_book.write_new.Reads as write-new-reads
-use Rattle.founding.proofs.found.Reads as found-reads
-use Rattle.founding.proofs.founding_node.Reads as founding-node-reads
 
--- src/new_book.rt:30:9
 returns : tie.Need-returns
-returns c = ?
+returns c = let a = c .before .before .before .before .args in new-1 (a .w .now) (a .k .now) (a .identifiers .now) (founderOf (a .founder) (a .identifiers .now)) (c .if1 .taken)
 
--- src/new_book.rt:33:9
 returns-2 : tie.Need-returns-2
-returns-2 c = ?
+returns-2 c = let a = c .before .before .before .before .before .args in new-cards-1 (a .w .now) (a .k .now) (a .identifiers .now) (founderOf (a .founder) (a .identifiers .now)) (c .before .if1 .left) (c .if2 .taken)
 
--- src/new_book.rt:35:9
 found-requires : tie.Need-found-requires
 found-requires c κs = search needs
 
--- src/new_book.rt:37:26
 enum-known-r : tie.Need-enum-known-r
 enum-known-r c = search needs
 
--- src/new_book.rt:38:27
 enum-known-r-2 : tie.Need-enum-known-r-2
 enum-known-r-2 c = search needs
 
--- src/new_book.rt:39:26
 founding-node-requires : tie.Need-founding-node-requires
 founding-node-requires c κs = search needs
 
--- src/new_book.rt:39:13
 write-new-requires : tie.Need-write-new-requires
-write-new-requires c κs = ?
+write-new-requires c κs = let a = c .before .before .before .before .before .before .before .before .before .before .before .before .before .before .args in
+    let f = c .before .before .before .before .before .before .before .found in
+    let l = fresh-below (a .w .now) (a .identifiers .now) (founderOf (a .founder) (a .identifiers .now)) (f .result) _ (c .before .before .before .r2 .given .0 .0) (f .ensures) (c .before .before .before .r2 .given .1) in
+    (omega (arith, l, c .founding-node .ensures), search needs)
 
--- src/new_book.rt:26:1
 same-length : tie.Need-same-length
 same-length c = search needs
 
--- src/new_book.rt:26:1
 returns-3 : tie.Need-returns-3
-returns-3 c = ?
+returns-3 c = let a = c .before .before .before .before .before .before .before .before .before .before .before .before .args in
+    let f = c .before .before .before .before .before .found in
+    new-refused (a .w .now) (a .k .now) (a .identifiers .now) (founderOf (a .founder) (a .identifiers .now)) (c .before .before .before .before .before .before .before .before .if1 .left) (c .before .before .before .before .before .before .before .if2 .left) (f .result) _ (f .ensures) (c .before .r .given .0 .0) (c .before .r .given .1)
 
--- src/new_book.rt:26:1
 same-length-2 : tie.Need-same-length-2
 same-length-2 c = search needs
 
--- src/new_book.rt:26:1
 same-length-3 : tie.Need-same-length-3
 same-length-3 c = search needs
 
--- src/new_book.rt:26:1
 returns-4 : tie.Need-returns-4
-returns-4 c = ?
+returns-4 c = let a = c .before .before .before .before .before .before .before .before .before .before .before .before .before .before .before .before .before .args in
+    let f = c .before .before .before .before .before .before .before .before .before .before .found in
+    let r = c .before .before .before .before .before .before .r2 in
+    let n = c .before .before .before .founding-node in
+    new-made (a .w .now) (a .k .now) (a .identifiers .now) (founderOf (a .founder) (a .identifiers .now)) (c .before .before .before .before .before .before .before .before .before .before .before .before .before .if1 .left) (c .before .before .before .before .before .before .before .before .before .before .before .before .if2 .left) (f .result) _ (f .ensures) (r .given .0 .0) (r .given .1) (n .result) (n .ensures) _ (c .before .before .write-new .ensures)
 
 pub found-spec : {M : Type 1} → statement M
 found-spec =

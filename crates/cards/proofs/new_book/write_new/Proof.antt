@@ -1,6 +1,5 @@
 -- `write_new`: all words 0, and the founder marked. Assumes nothing.
-use mathlib.Core.Path.{_≡_, refl, sym, _∙_, ap}
-use native.Mathlib.Omega.{arith}
+use mathlib.Core.Path.{_≡_, _∙_, ap}
 use Prim.Native.Nat.{_+_}
 use lib.ListN.{set}
 use Rattle.cards.specs.New.{new-law}
@@ -24,7 +23,7 @@ same-length : tie.Need-same-length
 same-length c = search needs
 
 returns : tie.Need-returns
-returns c = let s = c .before .before .before .before .before in ap (λ z. set z (1 + s .args .hub) 1) (c .before .before .clear .ensures) ∙ new-law (s .args .k .now) (s .args .hub) (s .pre .0)
+returns c = let s = c .before .before .before .before .before in ap (λ z. set z (1 + s .args .node) 1) (c .before .before .clear .ensures) ∙ new-law (s .args .k .now) (s .args .node) (s .pre .0)
 
 pub write-new-spec : {M : Type 1} → statement M
 write-new-spec = tie.close (tie.spec clear-requires add-k mul-k slice-write-k same-length returns)
