@@ -1,6 +1,8 @@
 // The ring for programs in C (document 01, 'Reading the ring'): the words travel as bytes, four a word, lowest first. Every length of
 // every lent slice is taken, and whatever is wrong is refused by its number. include/ring.h says the same to a C compiler.
 mod bytes;
+mod card_calls;
+mod card_results;
 mod foundings;
 mod results;
 
@@ -9,6 +11,10 @@ use crate::foundings::found;
 use crate::results::finish;
 use crate::results::finish_owner;
 use crate::results::finish_sheet;
+pub use card_calls::ring_fresh_by_cards;
+pub use card_calls::ring_fresh_cards;
+pub use card_calls::ring_offer;
+pub use card_calls::ring_step_cards;
 use protocol::Founder;
 use protocol::form::RECORD_BYTES;
 use protocol::refusals;

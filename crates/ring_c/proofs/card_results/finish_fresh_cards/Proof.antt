@@ -1,10 +1,10 @@
 -- `finish_fresh_cards` hands back what a fresh call with cards left. Assumes nothing.
 use Rattle.protocol.specs.Answers.{refusal}
 use Rattle.protocol.specs.Bytes.{bytesAfter}
-use Rattle.ring_c.specs.CardBytes.{foundedCards}
+use Rattle.protocol.specs.CardBytes.{foundedCards}
 use borrow.Author.Needs.{needs}
-use Rattle.ring_c.proofs.results.finish_fresh_cards.Statement.{statement}
-use Rattle.ring_c.proofs.results.finish_fresh_cards.Tie as tie
+use Rattle.ring_c.proofs.card_results.finish_fresh_cards.Statement.{statement}
+use Rattle.ring_c.proofs.card_results.finish_fresh_cards.Tie as tie
 
 enum-known-r : tie.Need-enum-known-r
 enum-known-r c = search needs

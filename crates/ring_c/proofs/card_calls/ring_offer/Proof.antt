@@ -1,10 +1,10 @@
 -- `ring_offer` meets its contract: the first words of both slices are loaded, and the cards written back. Assumes nothing.
 use mathlib.Core.Path.{_∙_}
 use native.Mathlib.Omega.{arith}
-use Rattle.ring_c.specs.CardBytes.{offer-1, offer-short, offer-rest}
+use Rattle.ring_c.specs.CardResults.{offer-1, offer-short, offer-rest}
 use borrow.Author.Needs.{needs}
-use Rattle.ring_c.proofs.ring_offer.Statement.{statement}
-use Rattle.ring_c.proofs.ring_offer.Tie as tie
+use Rattle.ring_c.proofs.card_calls.ring_offer.Statement.{statement}
+use Rattle.ring_c.proofs.card_calls.ring_offer.Tie as tie
 
 returns : tie.Need-returns
 returns c = let a = c .before .before .before .args in offer-1 (a .words .now) (a .book .now) (a .machine) (a .revision) (a .price) (omega arith)

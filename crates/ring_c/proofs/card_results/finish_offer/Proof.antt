@@ -1,10 +1,10 @@
 -- `finish_offer` hands back what an offer left. Assumes nothing.
 use Rattle.protocol.specs.Answers.{refusal}
 use Rattle.protocol.specs.Bytes.{bytesAfter}
-use Rattle.ring_c.specs.CardBytes.{taken}
+use Rattle.protocol.specs.CardBytes.{taken}
 use borrow.Author.Needs.{needs}
-use Rattle.ring_c.proofs.results.finish_offer.Statement.{statement}
-use Rattle.ring_c.proofs.results.finish_offer.Tie as tie
+use Rattle.ring_c.proofs.card_results.finish_offer.Statement.{statement}
+use Rattle.ring_c.proofs.card_results.finish_offer.Tie as tie
 
 enum-known-r : tie.Need-enum-known-r
 enum-known-r c = search needs

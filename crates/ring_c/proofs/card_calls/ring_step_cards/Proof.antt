@@ -1,10 +1,10 @@
 -- `ring_step_cards` meets its contract: the first words of both slices are loaded, and written back. Assumes nothing.
 use mathlib.Core.Path.{_∙_}
 use native.Mathlib.Omega.{arith}
-use Rattle.ring_c.specs.CardBytes.{step-cards-17, step-cards-1, step-cards-short, step-cards-rest}
+use Rattle.ring_c.specs.CardResults.{step-cards-17, step-cards-1, step-cards-short, step-cards-rest}
 use borrow.Author.Needs.{needs}
-use Rattle.ring_c.proofs.ring_step_cards.Statement.{statement}
-use Rattle.ring_c.proofs.ring_step_cards.Tie as tie
+use Rattle.ring_c.proofs.card_calls.ring_step_cards.Statement.{statement}
+use Rattle.ring_c.proofs.card_calls.ring_step_cards.Tie as tie
 
 returns : tie.Need-returns
 returns c = let a = c .before .before .before .before .args in step-cards-17 (a .words .now) (a .book .now) (a .out .now) (a .operation) (a .x) (a .y) (omega arith)

@@ -1,10 +1,10 @@
 -- `finish_cards` hands back what a step with cards left. Assumes nothing.
 use Rattle.protocol.specs.Answers.{refusal, outcomeWords}
 use Rattle.protocol.specs.Bytes.{over, bytesAfter}
-use Rattle.ring_c.specs.CardBytes.{carriedCards}
+use Rattle.protocol.specs.CardBytes.{carriedCards}
 use borrow.Author.Needs.{needs}
-use Rattle.ring_c.proofs.results.finish_cards.Statement.{statement}
-use Rattle.ring_c.proofs.results.finish_cards.Tie as tie
+use Rattle.ring_c.proofs.card_results.finish_cards.Statement.{statement}
+use Rattle.ring_c.proofs.card_results.finish_cards.Tie as tie
 
 enum-known-r : tie.Need-enum-known-r
 enum-known-r c = search needs
