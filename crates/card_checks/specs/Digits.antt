@@ -13,7 +13,7 @@ use lib.Seq.{getD-set-same, getD-set-other}
 use Rattle.lists.specs.Basics.{if_then_else_, Mem, every, distinct, table}
 use Rattle.lists.specs.Choice.{choose, passes}
 use Rattle.lists.specs.Members.{filled, mem-at, place}
-use Rattle.lists.specs.Tests.{says-every, says-same, T-true, true-T, →eqb}
+use Rattle.lists.specs.Tests.{says-every, says-so, T-true, true-T, →eqb}
 use Rattle.lists.specs.Blocks.{length-table, getD-table}
 use Rattle.lists.specs.Merge.{merged, merged-test, failure-test, distinct-none}
 use Rattle.card_checks.specs.Buckets.{unmet, unmet-yes, unmet-no, distinct-more, distinct-fails}
@@ -223,46 +223,53 @@ meets f n i j k l e = distinct-fails f (i + 1) n (distinct-more f i ∙ ap (λ z
     and-no true = refl
     and-no false = refl
 
-module _ (f : ℕ → ℕ) (m : ℕ) (rest groups : List ℕ) (G : Grouped f m 0 rest groups) where
+-- How many cards do not lead their groups, as the code tells it.
+abbrev pub following : ℕ → List ℕ → ℕ
+following m groups = merged m (λ i. if eqb (getD groups i 0) (i + 1) then 0 else 1)
+
+module _ (m : ℕ) (groups : List ℕ) where
   abbrev leads : ℕ → Bool
   leads i = eqb (getD groups i 0) (i + 1)
 
-  -- no digit is left
-  alike : (i j : ℕ) → i < m → j < m → getD groups i 0 ≡ getD groups j 0 → f i ≡ f j
-  alike i j a b e = let x : getD rest i 0 < 1 = G .low i a in let y : getD rest j 0 < 1 = G .low j b in G .apart i j a b e (omega arith)
+  all-lead : following m groups ≡ 0 → (i : ℕ) → i < m → getD groups i 0 ≡ i + 1
+  all-lead e i l =
+      let t = true-T _ (sym (merged-test _ leads (λ i. i) m (λ i l. failure-test (leads i))) ∙ ap (λ z. eqb z 0) e) in
+      eqb→eq _ _ (says-every leads (λ j. T (leads j)) (λ j. says-so (leads j)) (table m (λ i. i)) .to t i
+      (subst (λ z. Mem z (table m (λ i. i))) (getD-table m (λ i. i) i 0 l) (mem-at (table m (λ i. i)) i 0 (omega (arith, length-table m (λ i. i))))))
 
-  yes-differ : ((i : ℕ) → i < m → getD groups i 0 ≡ i + 1) → distinct (table m f) ≡ true
-  yes-differ h = differ-all f m (λ i j k l e. (let g = G .same j i (omega arith) l e in omega (arith, g .0, h j (omega arith), h i l)))
-
-  no-differ : (i : ℕ) → i < m → getD groups i 0 ≢ i + 1 → distinct (table m f) ≡ false
-  no-differ i l ne = go (decLt (G .head i l .0) i)
-    where
-      q : ℕ
-      q = G .head i l .0
-
-      same : f q ≡ f i
-      same = let h = G .head i l in alike q i (h .1) l (h .3 ∙ sym (h .2))
-
-      go : Dec (q < i) → distinct (table m f) ≡ false
-      go (yes k) = meets f m i q k l same
-      go (no k) = let h = G .head i l in meets f m q i (omega (arith, h .2)) (h .1) (sym same)
-
-  all-lead : distinct (table m f) ≡ true → T (every leads (table m (λ i. i)))
-  all-lead d = says-every leads (λ j. T (leads j)) (λ j. record { to = λ z. z; fro = λ z. z }) (table m (λ i. i)) .fro
+  none-follows : ((i : ℕ) → i < m → getD groups i 0 ≡ i + 1) → following m groups ≡ 0
+  none-follows h = eqb→eq _ 0 (true-T _ (merged-test _ leads (λ i. i) m (λ i l. failure-test (leads i))
+      ∙ T-true _ (says-every leads (λ j. T (leads j)) (λ j. says-so (leads j)) (table m (λ i. i)) .fro
       (λ i k. (let p = place i (table m (λ i. i)) 0 k in
       let l : p .0 < m = omega (arith, p .1, length-table m (λ i. i)) in
       let e : i ≡ p .0 = sym (p .2) ∙ getD-table m (λ i. i) (p .0) 0 l in
-      go i (omega arith) (ℕ-discrete (getD groups i 0) (i + 1))))
-    where
-      go : (i : ℕ) → i < m → Dec (getD groups i 0 ≡ i + 1) → T (leads i)
-      go i l (yes e) = →eqb _ _ e
-      go i l (no ne) = absurd (true≢false (sym d ∙ no-differ i l ne))
+      →eqb _ _ (h i (omega arith)))))))
 
-  they-lead : T (every leads (table m (λ i. i))) → (i : ℕ) → i < m → getD groups i 0 ≡ i + 1
-  they-lead t i l = eqb→eq _ _ (says-every leads (λ j. T (leads j)) (λ j. record { to = λ z. z; fro = λ z. z }) (table m (λ i. i)) .to t i
-      (subst (λ z. Mem z (table m (λ i. i))) (getD-table m (λ i. i) i 0 l) (mem-at (table m (λ i. i)) i 0 (omega (arith, length-table m (λ i. i))))))
+-- Where each card leads its group, after however many passes, the machines differ.
+pub grouped-yes : (f : ℕ → ℕ) (m left : ℕ) (rest groups : List ℕ) → Grouped f m left rest groups → following m groups ≡ 0 → distinct (table m f) ≡ true
+grouped-yes f m left rest groups G e =
+    let h = all-lead m groups e in
+    differ-all f m (λ i j k l q. (let g = G .same j i (omega arith) l q in omega (arith, g .0, h j (omega arith), h i l)))
 
-  pub grouped-verdict : (r : ℕ) → r ≡ merged m (λ i. if eqb (getD groups i 0) (i + 1) then 0 else 1) → eqb r 0 ≡ distinct (table m f)
-  grouped-verdict r e =
-      ap (λ z. eqb z 0) e ∙ merged-test _ leads (λ i. i) m (λ i l. failure-test (leads i))
-      ∙ says-same {P = distinct (table m f) ≡ true} (record { to = λ t. yes-differ (they-lead t); fro = all-lead }) (record { to = λ t. T-true _ t; fro = λ d. true-T _ d })
+-- And where they differ, each does after the last pass.
+pub grouped-no : (f : ℕ → ℕ) (m : ℕ) (rest groups : List ℕ) → Grouped f m 0 rest groups → following m groups ≢ 0 → distinct (table m f) ≡ false
+grouped-no f m rest groups G ne = go (distinct (table m f)) refl
+  where
+    alike : (i j : ℕ) → i < m → j < m → getD groups i 0 ≡ getD groups j 0 → f i ≡ f j
+    alike i j a b e = let x : getD rest i 0 < 1 = G .low i a in let y : getD rest j 0 < 1 = G .low j b in G .apart i j a b e (omega arith)
+
+    -- the leader of a card's group is another card with its machine
+    twice : (i : ℕ) → i < m → getD groups i 0 ≢ i + 1 → distinct (table m f) ≡ false
+    twice i l d = let h = G .head i l in
+        elim (decLt (h .0) i) [
+          | yes k ↦ meets f m i (h .0) k l (alike (h .0) i (h .1) l (h .3 ∙ sym (h .2)))
+          | no k ↦ meets f m (h .0) i (omega (arith, h .2)) (h .1) (alike i (h .0) l (h .1) (h .2 ∙ sym (h .3)))
+        ]
+
+    leads-or : distinct (table m f) ≡ true → (i : ℕ) → i < m → Dec (getD groups i 0 ≡ i + 1) → getD groups i 0 ≡ i + 1
+    leads-or d i l (yes e) = e
+    leads-or d i l (no e) = absurd (true≢false (sym d ∙ twice i l e))
+
+    go : (b : Bool) → distinct (table m f) ≡ b → b ≡ false
+    go false d = refl
+    go true d = absurd (ne (none-follows m groups (λ i l. leads-or d i l (ℕ-discrete (getD groups i 0) (i + 1)))))

@@ -1,5 +1,5 @@
 // Do the machines of the cards differ? By their digits of four bits, from the lowest: cards whose machines have the same digits so far are a group, and
-// each of eight passes parts the groups by one digit more. Linear in the cards, whatever their machines are. `rest` has what is left of each machine,
+// each of at most eight passes parts the groups by one digit more. Linear in the cards, whatever their machines are. `rest` has what is left of each machine,
 // `groups` one more than the first card of each card's group.
 use lists::failure;
 use protocol::form::CARD_WORDS;
@@ -64,18 +64,6 @@ fn part_once(rest: &mut [u32], groups: &mut [u32], m: usize)
     part(rest, groups, &mut slots, m);
 }
 
-// All eight passes: afterwards the cards of a group have the same machine.
-fn part_all(rest: &mut [u32], groups: &mut [u32], m: usize)
-    requires { ⌜ (m ≤ mostCards) × (m ≤ length (now rest)) × (m ≤ length (now groups)) × Grouped (λ j. getD (now rest) j 0) m 8 (now rest) (now groups) ⌝ }
-    ensures { λ _. ⌜ Grouped (λ j. getD (now (rest .entry)) j 0) m 0 (now (rest .exit)) (now (groups .exit)) ⌝ }
-{
-    let mut left: u32 = 8;
-    while 0 < left {
-        part_once(rest, groups, m);
-        left -= 1;
-    }
-}
-
 // 0 where each of the first m cards is the first of its group.
 fn followers(groups: &[u32], m: usize) -> u32
     requires { ⌜ (m ≤ mostCards) × (m ≤ length (now groups)) ⌝ }
@@ -90,6 +78,22 @@ fn followers(groups: &[u32], m: usize) -> u32
     bad
 }
 
+// Passes, until each card is the first of its group, but eight at most: then the cards of a group have the same machine.
+fn part_all(rest: &mut [u32], groups: &mut [u32], m: usize) -> bool
+    requires { ⌜ (m ≤ mostCards) × (m ≤ length (now rest)) × (m ≤ length (now groups)) × Grouped (λ j. getD (now rest) j 0) m 8 (now rest) (now groups) ⌝ }
+    ensures { λ r. ⌜ r ≡ distinct (table m (λ j. getD (now (rest .entry)) j 0)) ⌝ }
+{
+    let mut left: u32 = 8;
+    while 0 < left {
+        part_once(rest, groups, m);
+        if followers(groups, m) == 0 {
+            return true;
+        }
+        left -= 1;
+    }
+    false
+}
+
 pub(crate) fn by_digits(k: &[u32], m: usize) -> bool
     requires { ⌜ (m ≤ mostCards) × (bookSize ≤ length (now k)) ⌝ }
     ensures { λ r. ⌜ r ≡ distinct (table m (λ j. getD (now (k .entry)) (cardStart j) 0)) ⌝ }
@@ -97,6 +101,5 @@ pub(crate) fn by_digits(k: &[u32], m: usize) -> bool
     let mut rest = [0u32; 512];
     copy_machines(k, m, &mut rest);
     let mut groups = [1u32; 512];
-    part_all(&mut rest, &mut groups, m);
-    followers(&groups, m) == 0
+    part_all(&mut rest, &mut groups, m)
 }

@@ -66,7 +66,6 @@ pub nobody-marked : founded [] → ⊥
 unfolding bookOk marksOk markedFrom every
 nobody-marked c = true-T _ (c .formed)
 
-
 -- (e) A step that is refused by 2 with cards, and by 1 without them (the record is empty); and a record that is not the one without cards.
 abbrev leaving : Call
 leaving = record { operation = 2; x = 0; y = 0 }

@@ -1,5 +1,5 @@
-// The ring engine as its callers see it: six calls on a lent record of 1,988 words (documents 01 and 02), the step with a tally, and two calls
-// for the office's list of hubs.
+// The ring engine as its callers see it: six calls on a lent record of 1,988 words (documents 01 and 02), the step with a tally, five calls that
+// lend price cards beside the record, and two for the office's list of hubs.
 //
 // None of them asks for anything: each takes slices of any length, any words in them and any numbers, and what is wrong is refused by
 // the documents' numbers. Their contracts are equations with the meaning in protocol/specs/Calls.antt:
@@ -12,10 +12,23 @@
 //     roll_call(record, hub, output)              rollCall      the hubs around the ring, from a hub on
 //     counted_step(record, operation, x, y, tally)  stepCall, counted
 //
+// those with cards in protocol/specs/Cards.antt:
+//
+//     fresh_cards(record, cards, identifiers)                 freshCards    a ring and its card slice
+//     fresh_by_cards(record, cards, identifiers, founder)     freshByCards  the same, by the hub that is named
+//     step_cards(record, cards, operation, x, y)              stepCards     a step, and the cards change hub with it
+//     offer(record, cards, machine, revision, price)          offerCall     a card for a machine
+//     counted_step_cards(record, cards, operation, x, y, tally)  stepCards, counted
+//
 // and those for the sheet in sheets/specs/Calls.antt:
 //
 //     read_sheet(text, identifiers, names)        readCall      the hubs of a sheet
 //     write_sheet(names, identifiers, text)       writeCall     the sheet of hubs
+pub use card_offers::offer;
+pub use card_tally::step as counted_step_cards;
+pub use cards::fresh as fresh_cards;
+pub use cards::fresh_by as fresh_by_cards;
+pub use cards::step as step_cards;
 pub use founding::fresh;
 pub use founding::fresh_by;
 pub use queries::hub_row;

@@ -1,11 +1,11 @@
--- `by_digits`: at first all cards are one group; at the end each leads its own where the machines differ. Assumes nothing.
+-- `by_digits`: at first all cards are one group; the passes find out whether each leads its own. Assumes nothing.
 use mathlib.Core.Path.{_∙_, ap}
 use native.Mathlib.Omega.{arith}
 use lib.ListN.{getD, getD-replicate}
 use Rattle.protocol.specs.Cards.{cardStart}
 use Rattle.lists.specs.Basics.{distinct}
 use Rattle.lists.specs.Blocks.{table-cong}
-use Rattle.card_checks.specs.Digits.{grouped-start, grouped-verdict}
+use Rattle.card_checks.specs.Digits.{grouped-start}
 use borrow.Author.Needs.{needs}
 use Rattle.card_checks.proofs.digits.by_digits.Statement.{statement}
 use Rattle.card_checks.proofs.digits.by_digits.Tie as tie
@@ -23,20 +23,18 @@ slice-aggregate-part-all-2 : tie.Need-slice-aggregate-part-all-2
 slice-aggregate-part-all-2 c = search needs
 
 part-all-requires : tie.Need-part-all-requires
-part-all-requires c κs = let s = c .before .before .before .before .before .before in
-    (search needs, search needs, search needs, grouped-start (s .args .m) _ _ (λ i l. getD-replicate 512 i 1 0 (omega arith))
-    (λ i l. omega (arith, c .before .before .before .copy-machines .ensures i l, c .before .before .before .before .before .shared-slice-known .given (cardStart i))))
-
-slice-aggregate-followers : tie.Need-slice-aggregate-followers
-slice-aggregate-followers c = search needs
-
-followers-requires : tie.Need-followers-requires
-followers-requires c κs = search needs
+part-all-requires c κs = let s = c .before .before .before .before .before .before in (
+  search needs,
+  search needs,
+  search needs,
+  grouped-start (s .args .m) _ _ (λ i l. getD-replicate 512 i 1 0 (omega arith))
+      (λ i l. omega (arith, c .before .before .before .copy-machines .ensures i l, c .before .before .before .before .before .shared-slice-known .given (cardStart i))),
+)
 
 returns : tie.Need-returns
-returns c = let s = c .before .before .before .before .before .before .before .before .before .before .before in
-    grouped-verdict _ (s .args .m) _ _ (c .before .before .before .before .part-all .ensures) (c .followers .result) (c .followers .ensures)
-    ∙ ap distinct (table-cong _ (λ j. getD (s .args .k .now) (cardStart j) 0) (s .args .m) (c .before .before .before .before .before .before .before .before .copy-machines .ensures))
+returns c = let s = c .before .before .before .before .before .before .before .before .before in
+    c .before .before .part-all .ensures
+    ∙ ap distinct (table-cong _ (λ j. getD (s .args .k .now) (cardStart j) 0) (s .args .m) (c .before .before .before .before .before .before .copy-machines .ensures))
 
 pub by-digits-spec : {M : Type 1} → statement M
 by-digits-spec =
@@ -47,6 +45,4 @@ by-digits-spec =
     slice-aggregate-part-all
     slice-aggregate-part-all-2
     part-all-requires
-    slice-aggregate-followers
-    followers-requires
     returns)

@@ -78,10 +78,14 @@ loop-less c = search needs
 loop-again : tie.Need-loop-again Inv-loop μ-loop
 loop-again c = let l = c .before .before .before .before .before .loop in
     let s = c .before .before .before .before .before .before .before .before .before in
-    let b = slot-below (s .args .m) (s .args .rest .now) (s .args .groups .now) (l .i) (l .rest) (l .groups) (l .slots) (l .inv .4) (omega arith) (s .pre .5) in
-    (search needs, simp length-set (l .inv .1), simp length-set (l .inv .2), simp length-set (l .inv .3),
-    parting-more (s .args .m) (s .args .rest .now) (s .args .groups .now) (l .i) (getD (l .groups) (l .i) 0 * 16 + getD (l .rest) (l .i) 0 % 16) (c .first-come .result) (l .rest) (l .groups) (l .slots) (l .inv .4)
-    (omega arith) (omega arith) (omega arith) (omega (arith, l .inv .3, s .pre .3)) b refl (c .first-come .ensures))
+    let b = slot-below (s .args .m) (s .args .rest .now) (s .args .groups .now) (l .i) (l .rest) (l .groups) (l .slots) (l .inv .4) (omega arith) (s .pre .5) in (
+      search needs,
+      simp length-set (l .inv .1),
+      simp length-set (l .inv .2),
+      simp length-set (l .inv .3),
+      parting-more (s .args .m) (s .args .rest .now) (s .args .groups .now) (l .i) (getD (l .groups) (l .i) 0 * 16 + getD (l .rest) (l .i) 0 % 16) (c .first-come .result) (l .rest) (l .groups) (l .slots) (l .inv .4)
+          (omega arith) (omega arith) (omega arith) (omega (arith, l .inv .3, s .pre .3)) b refl (c .first-come .ensures),
+    )
 
 same-length : tie.Need-same-length Inv-loop μ-loop
 same-length c = search needs

@@ -1,39 +1,30 @@
--- `part_all`: between the passes two cards of one group have the same digits so far. Assumes nothing.
+-- `part_all`: between the passes two cards of one group have the same digits so far, and some card does not lead its group. Assumes nothing.
 use borrow.Author.Needs.{needs}
-use mathlib.Core.Path.{_≡_, refl, sym, _∙_, ap, subst}
-use Prim.Native.Nat.{suc, _≤_, _-_}
+use mathlib.Core.Path.{_≡_, refl, sym, _∙_, subst}
+use mathlib.Core.Logic.{_≢_}
+use Prim.Native.Nat.{suc, _-_, _<_}
 use native.Mathlib.Omega.{arith}
 use lib.ListN.{length, getD}
-use Rattle.card_checks.specs.Digits.{Grouped, group-small, grouped-next}
+use Rattle.card_checks.specs.Digits.{Grouped, following, group-small, grouped-next, grouped-yes, grouped-no}
 use Rattle.card_checks.proofs.digits.part_all.Statement.{statement}
 use Rattle.card_checks.proofs.digits.part_all.Tie as tie
 
 abbrev Inv-loop : tie.InvT-loop
-Inv-loop rest₀ groups₀ m left₀ rest groups left = (length rest ≡ length rest₀) × (length groups ≡ length groups₀) × Grouped (λ j. getD rest₀ j 0) m left rest groups
+Inv-loop rest₀ groups₀ m left₀ rest groups left = (length rest ≡ length rest₀) × (length groups ≡ length groups₀) × Grouped (λ j. getD rest₀ j 0) m left rest groups × (left < 8 → following m groups ≢ 0)
 
 abbrev μ-loop : tie.MeasureT-loop
 μ-loop rest₀ groups₀ m left₀ rest groups left = left
 
 loop-holds : tie.Need-loop-holds Inv-loop μ-loop
-loop-holds c = (refl, refl, c .before .before .pre .3)
+loop-holds c = (refl, refl, c .before .before .pre .3, λ l. absurd (omega arith))
 
 part-once-requires : tie.Need-part-once-requires Inv-loop μ-loop
 part-once-requires c κs = let l = c .before .before .before .loop in
     let s = c .before .before .before .before .before .before in
     (s .pre .0, search needs, search needs, λ j k. omega (arith, group-small (l .inv .2) j k, s .pre .0))
 
-sub-left : tie.Need-sub-left Inv-loop μ-loop
-sub-left c = search needs
-
-loop-less : tie.Need-loop-less Inv-loop μ-loop
-loop-less c = search needs
-
-loop-again : tie.Need-loop-again Inv-loop μ-loop
-loop-again c = let l = c .before .before .before .before .before .before .before .before .loop in
-    let s = c .before .before .before .before .before .before .before .before .before .before .before in
-    let e : l .left ≡ suc (l .left - 1) = omega arith in
-    (search needs, search needs, grouped-next (λ j. getD (s .args .rest .now) j 0) (s .args .m) (l .left - 1) (l .rest) (l .groups) _ _
-    (subst (λ z. Grouped (λ j. getD (s .args .rest .now) j 0) (s .args .m) z (l .rest) (l .groups)) e (l .inv .2)) (c .before .before .before .before .part-once .ensures))
+followers-requires : tie.Need-followers-requires Inv-loop μ-loop
+followers-requires c κs = search needs
 
 same-length : tie.Need-same-length Inv-loop μ-loop
 same-length c = search needs
@@ -42,10 +33,38 @@ same-length-2 : tie.Need-same-length-2 Inv-loop μ-loop
 same-length-2 c = search needs
 
 returns : tie.Need-returns Inv-loop μ-loop
-returns c = let l = c .before .loop in
+returns c = let l = c .before .before .before .before .before .before .before .before .before .before .before .loop in
+    let s = c .before .before .before .before .before .before .before .before .before .before .before .before .before .before in
+    let e : l .left ≡ suc (l .left - 1) = omega arith in
+    let g = grouped-next (λ j. getD (s .args .rest .now) j 0) (s .args .m) (l .left - 1) (l .rest) (l .groups) _ _
+    (subst (λ z. Grouped (λ j. getD (s .args .rest .now) j 0) (s .args .m) z (l .rest) (l .groups)) e (l .inv .2)) (c .before .before .before .before .before .before .before .part-once .ensures) in
+    sym (grouped-yes (λ j. getD (s .args .rest .now) j 0) (s .args .m) (l .left - 1) _ _ g (sym (c .before .followers .ensures) ∙ c .if1 .taken))
+
+sub-left : tie.Need-sub-left Inv-loop μ-loop
+sub-left c = search needs
+
+loop-less : tie.Need-loop-less Inv-loop μ-loop
+loop-less c = search needs
+
+loop-again : tie.Need-loop-again Inv-loop μ-loop
+loop-again c = let l = c .before .before .before .before .before .before .before .before .before .before .before .loop in
+    let s = c .before .before .before .before .before .before .before .before .before .before .before .before .before .before in
+    let e : l .left ≡ suc (l .left - 1) = omega arith in
+    let g = grouped-next (λ j. getD (s .args .rest .now) j 0) (s .args .m) (l .left - 1) (l .rest) (l .groups) _ _
+    (subst (λ z. Grouped (λ j. getD (s .args .rest .now) j 0) (s .args .m) z (l .rest) (l .groups)) e (l .inv .2)) (c .before .before .before .before .before .before .before .part-once .ensures) in
+    (search needs, search needs, g, λ u z. c .if1 .left (c .before .followers .ensures ∙ z))
+
+same-length-3 : tie.Need-same-length-3 Inv-loop μ-loop
+same-length-3 c = search needs
+
+same-length-4 : tie.Need-same-length-4 Inv-loop μ-loop
+same-length-4 c = search needs
+
+returns-2 : tie.Need-returns-2 Inv-loop μ-loop
+returns-2 c = let l = c .before .loop in
     let s = c .before .before .before .before in
     let e : l .left ≡ 0 = omega arith in
-    subst (λ z. Grouped (λ j. getD (s .args .rest .now) j 0) (s .args .m) z (l .rest) (l .groups)) e (l .inv .2)
+    sym (grouped-no (λ j. getD (s .args .rest .now) j 0) (s .args .m) (l .rest) (l .groups) (subst (λ z. Grouped (λ j. getD (s .args .rest .now) j 0) (s .args .m) z (l .rest) (l .groups)) e (l .inv .2)) (l .inv .3 (omega arith)))
 
 pub part-all-spec : {M : Type 1} → statement M
 part-all-spec =
@@ -55,9 +74,13 @@ part-all-spec =
     μ-loop
     loop-holds
     part-once-requires
+    followers-requires
+    same-length
+    same-length-2
+    returns
     sub-left
     loop-less
     loop-again
-    same-length
-    same-length-2
-    returns)
+    same-length-3
+    same-length-4
+    returns-2)
