@@ -21,29 +21,9 @@ use Rattle.protocol.specs.Calls.{turnedDown, written, stepCall, freshByCall, ow
 use Rattle.protocol.specs.Bytes.{Byte, wordsOf, over, bytesAfter, carried, freshCarried, stepBytes, freshByBytes, told, ownerBytes}
 use Rattle.layout.specs.Words.{length-words}
 use Rattle.layout.specs.Questions.{long-yes, long-no, record-1}
-use Rattle.ring_c.specs.First.{with, same-step, same-fresh, same-owner}
+use Rattle.word_bytes.specs.First.{with, same-step, same-fresh, same-owner}
 use Rattle.layout.specs.Bytes.{back}
-use Rattle.ring_c.specs.Carry.{wordAt, firstWords, words-split, carried-first}
-
--- fewer than four bytes hold no word
-few : (b : List ℕ) → length b < 4 → wordsOf b ≡ []
-unfolding wordsOf
-few [] h = refl
-few (a ∷ []) h = refl
-few (a ∷ b ∷ []) h = refl
-few (a ∷ b ∷ c ∷ []) h = refl
-few (a ∷ b ∷ c ∷ d ∷ r) h = absurd (omega arith)
-
--- the words are the first ones, as many as there are
-pub words-all : (b : List ℕ) → wordsOf b ≡ firstWords b (length b / 4)
-words-all b =
-    let n = length b / 4 in
-    words-split b n (omega arith)
-    ∙ ap (λ l. firstWords b n ++ l) (few (drop (4 * n) b) (simp length-drop (omega arith)))
-    ∙ append-nil (firstWords b n)
-
-pub words-length : (b : List ℕ) → length (wordsOf b) ≡ length b / 4
-words-length b = ap length (words-all b) ∙ length-table (length b / 4) (wordAt b)
+use Rattle.word_bytes.specs.Carry.{wordAt, firstWords, words-split, carried-first, words-all, words-length}
 
 -- a fresh ring has a row for each identifier, and no message
 fresh-count : (ids : List ℕ) (f : ℕ) → length ids ≤ mostNodes → count (fresh ids f) ≤ mostNodes

@@ -1,10 +1,10 @@
 // Founding a ring in lent bytes, whoever is to found it.
-use crate::bytes::load;
 use crate::results::finish_fresh;
 use protocol::Founder;
 use protocol::form::RECORD_BYTES;
 use protocol::form::RECORD_WORDS;
 use protocol::refusals;
+use word_bytes::load;
 ghost use mathlib.Core.Path.{_≡_};
 ghost use Rattle.protocol.specs.Bytes.{wordsOf, freshByBytes};
 ghost use Rattle.protocol.specs.Fresh.{founderOf};

@@ -1,27 +1,21 @@
 // The ring for programs in C (document 01, 'Reading the ring'): the words travel as bytes, four a word, lowest first. Every length of
 // every lent slice is taken, and whatever is wrong is refused by its number. include/ring.h says the same to a C compiler.
-mod bytes;
-mod card_calls;
-mod card_results;
 mod foundings;
 mod results;
 
-use crate::bytes::loaded;
 use crate::foundings::found;
 use crate::results::finish;
 use crate::results::finish_owner;
 use crate::results::finish_sheet;
-pub use card_calls::ring_fresh_by_cards;
-pub use card_calls::ring_fresh_cards;
-pub use card_calls::ring_offer;
-pub use card_calls::ring_step_cards;
 use protocol::Founder;
 use protocol::form::RECORD_BYTES;
 use protocol::refusals;
 use sheet_reading::read_sheet_bytes;
 use sheet_writing::write_sheet_bytes;
+use word_bytes::loaded;
 ghost use mathlib.Core.Path.{_≡_};
 ghost use Rattle.protocol.specs.Bytes.{stepBytes, ownerBytes, freshBytes, freshByBytes};
+ghost use Rattle.protocol.specs.CardBytes.{stepCardsBytes, offerBytes, freshCardsBytes, freshByCardsBytes};
 ghost use Rattle.ring_c.specs.Told.{sheetRead, sheetWrite};
 
 // One command on the record in the lent bytes. Only the record is loaded, since a step looks at nothing behind it.
@@ -70,6 +64,56 @@ pub extern "C" fn ring_fresh_by(words: &mut [u8], identifiers: &[u8], founder: u
     ensures { λ r. ⌜ freshByBytes (now (words .entry)) (now (identifiers .entry)) founder ≡ record { code = r; bytes = now (words .exit) } ⌝ }
 {
     found(words, identifiers, Founder::Named(founder))
+}
+
+// One command on the record in the lent bytes, with its cards in others.
+#[no_mangle]
+pub extern "C" fn ring_step_cards(
+    words: &mut [u8],
+    book: &mut [u8],
+    operation: u32,
+    x: u32,
+    y: u32,
+    out: &mut [u8],
+) -> u32
+    ensures { λ r. ⌜ stepCardsBytes (now (words .entry)) (now (book .entry)) operation x y (now (out .entry)) ≡ record { code = r; bytes = now (words .exit); book = now (book .exit); output = now (out .exit) } ⌝ }
+{
+    card_bytes::step(words, book, operation, x, y, out)
+}
+
+// A card offered to the ring in the lent bytes, which are only read.
+#[no_mangle]
+pub extern "C" fn ring_offer(
+    words: &[u8],
+    book: &mut [u8],
+    machine: u32,
+    revision: u32,
+    price: u32,
+) -> u32
+    ensures { λ r. ⌜ offerBytes (now (words .entry)) (now (book .entry)) machine revision price ≡ record { code = r; book = now (book .exit) } ⌝ }
+{
+    card_bytes::offer(words, book, machine, revision, price)
+}
+
+// A ring founded in the lent bytes with its card slice, by the node with the smallest identifier.
+#[no_mangle]
+pub extern "C" fn ring_fresh_cards(words: &mut [u8], book: &mut [u8], identifiers: &[u8]) -> u32
+    ensures { λ r. ⌜ freshCardsBytes (now (words .entry)) (now (book .entry)) (now (identifiers .entry)) ≡ record { code = r; bytes = now (words .exit); book = now (book .exit) } ⌝ }
+{
+    card_bytes::fresh(words, book, identifiers)
+}
+
+// The same, by the node that the caller names.
+#[no_mangle]
+pub extern "C" fn ring_fresh_by_cards(
+    words: &mut [u8],
+    book: &mut [u8],
+    identifiers: &[u8],
+    founder: u32,
+) -> u32
+    ensures { λ r. ⌜ freshByCardsBytes (now (words .entry)) (now (book .entry)) (now (identifiers .entry)) founder ≡ record { code = r; bytes = now (words .exit); book = now (book .exit) } ⌝ }
+{
+    card_bytes::fresh_by(words, book, identifiers, founder)
 }
 
 // Two counts of eight bytes.

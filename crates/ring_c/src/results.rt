@@ -1,8 +1,8 @@
 // What a call hands back: the number of the refusal and nothing written, or 0 and the words.
-use crate::bytes::save;
 use answers::answer_words;
 use protocol::Outcome;
 use protocol::Ownership;
+use word_bytes::save;
 ghost use mathlib.Core.Path.{_≡_};
 ghost use Prim.Native.Nat.{_*_, _≤_};
 ghost use lib.ListN.{length};

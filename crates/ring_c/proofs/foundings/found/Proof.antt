@@ -6,9 +6,9 @@ use Rattle.lists.specs.Blocks.{length-table}
 use native.Mathlib.Omega.{arith}
 use Rattle.lists.specs.Basics.{All}
 use Rattle.lists.specs.Members.{all-at}
-use Rattle.ring_c.specs.Carry.{wordAt}
+use Rattle.word_bytes.specs.Carry.{wordAt, words-all}
 use Rattle.protocol.specs.Fresh.{founderOf}
-use Rattle.ring_c.specs.Results.{words-all, fresh-1, fresh-13, fresh-rest}
+use Rattle.ring_c.specs.Results.{fresh-1, fresh-13, fresh-rest}
 use borrow.Author.Needs.{needs}
 use Rattle.ring_c.proofs.foundings.found.Statement.{statement}
 use Rattle.protocol.specs.Bytes.{Byte, wordsOf}
