@@ -1,6 +1,14 @@
 /*
- * A small modem server: frames come in, one a line, are carried out on a record that this program owns, and answers go out.
- * It speaks the frames of `ringrun`, and adds one of its own: 'O' and 8 digits ask who holds a number, and print the hub in 2 digits.
+ * A small modem server: frames come in, one a line, are carried out on a record that this program owns, and answers go out. Beside the record it
+ * keeps the price cards, which change hub as hubs enter and go. It speaks the frames of `ringrun`, and adds three of its own:
+ *
+ *   'O' and 8 digits of a number           who holds it: prints the hub in 2 digits
+ *   'C' and 8 digits each of machine,      a card is offered: prints quiet, 24 digits 0, or 'EE' and the number of the refusal
+ *       revision and price
+ *   'P' and 8 digits of a machine          its card: prints the hub that keeps it in 2 digits, revision and price in 8 each; a machine without
+ *                                          a card is held by nobody: EE0F
+ *
+ * A frame of `ringrun` may begin with C too, but has 18 digits: no frame is taken for another.
  */
 #include <stdio.h>
 #include <string.h>
@@ -8,8 +16,12 @@
 #include "ring.h"
 
 #define LONGEST_FRAME 514 /* F0 and 64 identifiers of 8 digits */
+#define OFFER_FRAME 25
+#define FIRST_CARD 65u /* the word of the cards where the first one begins; each has four: machine, revision, price, hub */
 
-static uint8_t words[RING_RECORD_BYTES]; /* all 0 until a ring is founded: a command is then refused by 2 */
+static uint8_t words[RING_RECORD_BYTES]; /* all 0 until a ring is founded: a command or an offer is then refused by 2 */
+static uint8_t cards[RING_CARDS_BYTES];  /* made with the ring, lent to every step on it, and written by nothing else but offers */
+static const uint8_t quiet[RING_ANSWER_BYTES];
 
 static int digit(char c)
 {
@@ -43,11 +55,10 @@ static void say_answer(const uint8_t *out)
 
 /*
  * 'F0' and identifiers of 8 digits. The founder is named, hub 0, wherever the smallest identifier stands: a frame has no place for one, and
- * those who send frames rely on the first hub. A server without such users takes ring_fresh.
+ * those who send frames rely on the first hub. A server without such users takes ring_fresh_cards. The cards of a ring before it are gone.
  */
 static int found_ring(const char *line, size_t length)
 {
-    static const uint8_t quiet[RING_ANSWER_BYTES];
     uint8_t identifiers[4 * RING_MOST_HUBS];
     size_t count = (length - 2) / 8;
     if ((length - 2) % 8 != 0) return 0;
@@ -56,7 +67,7 @@ static int found_ring(const char *line, size_t length)
         if (!number(line + 2 + 8 * i, 8, &v)) return 0;
         for (size_t k = 0; k < 4; k++) identifiers[4 * i + k] = (uint8_t)(v >> 8 * k);
     }
-    uint32_t refusal = ring_fresh_by(words, sizeof words, identifiers, 4 * count, 0);
+    uint32_t refusal = ring_fresh_by_cards(words, sizeof words, cards, sizeof cards, identifiers, 4 * count, 0);
     if (refusal != RING_OK) say_refused(refusal);
     else say_answer(quiet);
     return 1;
@@ -68,7 +79,7 @@ static int command(const char *line, size_t length)
     uint8_t out[RING_ANSWER_BYTES];
     uint32_t operation, x, y;
     if (length != 18 || !number(line, 2, &operation) || !number(line + 2, 8, &x) || !number(line + 10, 8, &y)) return 0;
-    uint32_t refusal = ring_step(words, sizeof words, operation, x, y, out, sizeof out);
+    uint32_t refusal = ring_step_cards(words, sizeof words, cards, sizeof cards, operation, x, y, out, sizeof out);
     if (refusal != RING_OK) say_refused(refusal);
     else say_answer(out);
     return 1;
@@ -85,12 +96,38 @@ static int owner(const char *line, size_t length)
     return 1;
 }
 
+static int offer(const char *line)
+{
+    uint32_t machine, revision, price;
+    if (!number(line + 1, 8, &machine) || !number(line + 9, 8, &revision) || !number(line + 17, 8, &price)) return 0;
+    uint32_t refusal = ring_offer(words, sizeof words, cards, sizeof cards, machine, revision, price);
+    if (refusal != RING_OK) say_refused(refusal);
+    else say_answer(quiet);
+    return 1;
+}
+
+static int price(const char *line, size_t length)
+{
+    uint32_t machine, count = ring_word(cards, 0);
+    if (length != 9 || !number(line + 1, 8, &machine)) return 0;
+    for (uint32_t i = 0; i < count; i++) {
+        const uint8_t *card = cards + 4 * (FIRST_CARD + 4 * i);
+        if (ring_word(card, 0) != machine) continue;
+        printf("%02X%08X%08X\n", (unsigned)ring_word(card, 3), (unsigned)ring_word(card, 1), (unsigned)ring_word(card, 2));
+        return 1;
+    }
+    say_refused(RING_NO_HOLDER);
+    return 1;
+}
+
 static void answer(const char *line, size_t length)
 {
     int readable = 0;
     if (length <= LONGEST_FRAME) {
         if (length >= 2 && memcmp(line, "F0", 2) == 0) readable = found_ring(line, length);
         else if (length >= 1 && line[0] == 'O') readable = owner(line, length);
+        else if (length >= 1 && line[0] == 'P') readable = price(line, length);
+        else if (length == OFFER_FRAME && line[0] == 'C') readable = offer(line);
         else readable = command(line, length);
     }
     if (!readable) puts("EEFF");

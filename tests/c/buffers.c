@@ -137,6 +137,7 @@ int main(void)
         guard = guards[k];
         foundings();
         sheets();
+        price_cards();
         step_at_each_length();
         record_of_each_length();
         step_refused();

@@ -28,6 +28,19 @@ uint32_t model_sheet_read(const uint8_t *text, size_t text_len, uint8_t *identif
 uint32_t model_sheet_write(const uint8_t *names, size_t names_len, const uint8_t *identifiers, size_t identifiers_len, uint8_t *text,
                            size_t text_len, uint8_t *counts, size_t counts_len);
 
+uint32_t traced_fresh_cards(uint8_t *words, size_t words_len, uint8_t *cards, size_t cards_len, const uint8_t *identifiers, size_t identifiers_len);
+uint32_t traced_fresh_by_cards(uint8_t *words, size_t words_len, uint8_t *cards, size_t cards_len, const uint8_t *identifiers,
+                               size_t identifiers_len, uint32_t founder);
+uint32_t traced_step_cards(uint8_t *words, size_t words_len, uint8_t *cards, size_t cards_len, uint32_t operation, uint32_t x, uint32_t y,
+                           uint8_t *out, size_t out_len);
+uint32_t traced_offer(const uint8_t *words, size_t words_len, uint8_t *cards, size_t cards_len, uint32_t machine, uint32_t revision, uint32_t price);
+uint32_t model_fresh_cards(uint8_t *words, size_t words_len, uint8_t *cards, size_t cards_len, const uint8_t *identifiers, size_t identifiers_len);
+uint32_t model_fresh_by_cards(uint8_t *words, size_t words_len, uint8_t *cards, size_t cards_len, const uint8_t *identifiers,
+                              size_t identifiers_len, uint32_t founder);
+uint32_t model_step_cards(uint8_t *words, size_t words_len, uint8_t *cards, size_t cards_len, uint32_t operation, uint32_t x, uint32_t y,
+                          uint8_t *out, size_t out_len);
+uint32_t model_offer(const uint8_t *words, size_t words_len, uint8_t *cards, size_t cards_len, uint32_t machine, uint32_t revision, uint32_t price);
+
 #define MOST_BYTES (RING_RECORD_BYTES + 64u)
 #define RECORD_WORDS (RING_RECORD_BYTES / 4u)
 

@@ -12,21 +12,19 @@ uint32_t take_byte(struct input *in)
     return *in->at++;
 }
 
-static uint32_t take_word(struct input *in)
+uint32_t take_word(struct input *in)
 {
     uint32_t value = 0;
     for (unsigned k = 0; k < 4; k++) value |= take_byte(in) << 8 * k;
     return value;
 }
 
-/* A byte that stands for a number of the ring: spread over all 32 bits, and different for different bytes. */
-static uint32_t spread(uint32_t byte)
+uint32_t spread(uint32_t byte)
 {
     return byte * 0x01000001u;
 }
 
-/* A byte as a count whose highest values matter: 255 stands for `top`, 254 for the one below it, 253 for the one above. */
-static uint32_t near_top(uint32_t byte, uint32_t top)
+uint32_t near_top(uint32_t byte, uint32_t top)
 {
     if (byte == 255) return top;
     if (byte == 254) return top - 1;
@@ -48,16 +46,16 @@ static uint32_t take_founder(struct input *in)
     return founder < 128 ? founder : take_word(in);
 }
 
-static int take_fresh(struct input *in, struct ring *ring, int named)
+struct founding take_founding(struct input *in, int named, uint8_t *identifiers)
 {
-    uint8_t identifiers[4 * 66 + 3] = {0};
     uint32_t count = take_byte(in) % 66, scheme = take_byte(in);
     struct founding f = {identifiers, 4 * count + scheme % 4, named, named ? take_founder(in) : 0};
+    memset(identifiers, 0, IDENTIFIER_ROOM);
     for (uint32_t i = 0; i < count; i++) {
         uint32_t id = scheme == 0 ? take_word(in) : scheme * (i + 1) * 0x9E3779B1u;
         for (uint32_t k = 0; k < 4; k++) identifiers[4 * i + k] = (uint8_t)(id >> 8 * k);
     }
-    return checked_fresh(ring, &f) == RING_OK;
+    return f;
 }
 
 /* One row. Bit 5 of its byte leaves all fields as the input has them; otherwise they are made to fit the state. */
@@ -117,28 +115,41 @@ static void take_fields(struct input *in, struct ring *ring)
     }
 }
 
-static void take_bytes(struct input *in, struct ring *ring)
+void take_bytes(struct input *in, uint8_t *bytes, size_t most)
 {
     size_t len = take_byte(in);
     len |= (size_t)take_byte(in) << 8;
     if (len > in->left) len = in->left;
-    if (len > MOST_BYTES) len = MOST_BYTES;
-    if (len != 0) memcpy(ring->bytes, in->at, len);
+    if (len > most) len = most;
+    if (len != 0) memcpy(bytes, in->at, len);
     in->at += len;
     in->left -= len;
 }
 
-int take_ring(struct input *in, struct ring *ring)
+uint32_t take_mode(struct input *in, struct ring *ring)
 {
     memset(ring->bytes, 0, RING_RECORD_BYTES);
     memset(ring->bytes + RING_RECORD_BYTES, 0xC3, MOST_BYTES - RING_RECORD_BYTES); /* a 0 that is written there would be seen */
     take_lengths(in, ring);
-    switch (take_byte(in) % 4) {
-    case 0: return take_fresh(in, ring, 0);
-    case 1: return take_fresh(in, ring, 1);
-    case 2: take_fields(in, ring); return 1;
-    default: take_bytes(in, ring); return 1;
+    return take_byte(in) % 4;
+}
+
+void take_record(struct input *in, struct ring *ring, uint32_t mode)
+{
+    if (mode == 2) take_fields(in, ring);
+    else take_bytes(in, ring->bytes, MOST_BYTES);
+}
+
+int take_ring(struct input *in, struct ring *ring)
+{
+    uint8_t identifiers[IDENTIFIER_ROOM];
+    uint32_t mode = take_mode(in, ring);
+    if (mode < 2) {
+        struct founding f = take_founding(in, mode == 1, identifiers);
+        return checked_fresh(ring, &f) == RING_OK;
     }
+    take_record(in, ring, mode);
+    return 1;
 }
 
 /* Hub i's identifier, where the record may say anything. */

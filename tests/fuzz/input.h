@@ -20,10 +20,28 @@ struct input {
     size_t left;
 };
 
-/* The next byte; 0 behind the end. */
+/* The next byte, or the next four as a number, lowest first; 0 behind the end. */
 uint32_t take_byte(struct input *in);
+uint32_t take_word(struct input *in);
 
-/* Answers whether there is a record to go on with: not after a fresh call that was refused. */
+/* A byte that stands for a number of the ring: spread over all 32 bits, and different for different bytes. */
+uint32_t spread(uint32_t byte);
+
+/* A byte as a count whose highest values matter: 255 stands for `top`, 254 for the one below it, 253 for the one above. */
+uint32_t near_top(uint32_t byte, uint32_t top);
+
+/* Lengths and mode; the record is then all 0, with marks behind it. */
+uint32_t take_mode(struct input *in, struct ring *ring);
+
+/* What modes 0 and 1 found, with room for its identifiers; a record of mode 2 or 3. */
+#define IDENTIFIER_ROOM (4 * 66 + 3)
+struct founding take_founding(struct input *in, int named, uint8_t *identifiers);
+void take_record(struct input *in, struct ring *ring, uint32_t mode);
+
+/* So many bytes as they are, as the 2 bytes before them say, but at most `most`. */
+void take_bytes(struct input *in, uint8_t *bytes, size_t most);
+
+/* All of it. Answers whether there is a record to go on with: not after a fresh call that was refused. */
 int take_ring(struct input *in, struct ring *ring);
 
 /* Takes the next commands, at most 256 that are alike; answers how often *c is to be given, 0 at the end of the input. */

@@ -5,7 +5,7 @@ type Step = unsafe extern "C" fn(*mut u8, usize, u32, u32, u32, *mut u8, usize) 
 /// `ring_owner` of ring.h.
 type Owner = unsafe extern "C" fn(*const u8, usize, u32, *mut u8, usize) -> u32;
 
-mod engine {
+pub mod engine {
     extern "C" {
         pub fn ring_step(
             words: *mut u8,

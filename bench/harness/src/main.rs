@@ -2,6 +2,7 @@
 //! crate, prints the tables, and writes them with a plot: `bench/run`, or
 //! `bench/run --quick` for a short try.
 
+mod cards;
 mod cases;
 mod contestants;
 mod frames;
@@ -26,6 +27,7 @@ struct Effort {
     rounds: usize,
     frames: usize,
     runs: usize,
+    card_rounds: usize,
     sheet_rounds: usize,
     folder: &'static str,
 }
@@ -35,6 +37,7 @@ const FULL: Effort = Effort {
     rounds: 600,
     frames: 100_000,
     runs: 45,
+    card_rounds: 240,
     sheet_rounds: 180,
     folder: "docs",
 };
@@ -43,6 +46,7 @@ const QUICK: Effort = Effort {
     rounds: 12,
     frames: 20_000,
     runs: 3,
+    card_rounds: 6,
     sheet_rounds: 6,
     folder: "target/bench",
 };
@@ -59,10 +63,11 @@ fn main() -> io::Result<()> {
     };
     let table = points(effort.rounds);
     let programs = programs::measure(effort.frames, effort.runs)?;
+    let cards = cards::measure(effort.card_rounds);
     let sheets = sheet::measure(effort.sheet_rounds);
     let document = format!("{}/BENCH.md", effort.folder);
     let older = fs::read_to_string(&document).unwrap_or_default();
-    let text = report::text(&table, &programs, &sheets, &older);
+    let text = report::text(&table, &programs, &cards, &sheets, &older);
     print!("{text}");
     let panels = sweeps(effort.rounds);
     fs::write(document, text)?;

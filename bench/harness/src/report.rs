@@ -8,12 +8,13 @@ use crate::kept::marked;
 use crate::measure::Figures;
 use crate::programs::{Programs, PROGRAMS};
 use crate::ratios::{span, summary, within, RATIOS};
-use crate::sheet;
+use crate::{cards, sheet};
 
 /// The whole document. What an older one has in its marked part stays.
 pub fn text(
     table: &[Figures],
     programs: &Programs,
+    cards: &[cards::Figures],
     sheets: &[sheet::Figures],
     older: &str,
 ) -> String {
@@ -24,6 +25,7 @@ pub fn text(
     text += METHOD;
     text += &calls(table);
     text += &ringrun(programs);
+    text += &cards::section(cards);
     text += &sheet::section(sheets);
     let _ = write!(text, "\n## The proofs\n\n{}\n", marked(older));
     text

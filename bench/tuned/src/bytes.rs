@@ -9,6 +9,10 @@ use crate::check::Check;
 use crate::record::RECORD_WORDS;
 use crate::refusal;
 
+mod cards;
+
+pub use cards::{offer, step_cards, BOOK_BYTES};
+
 /// Bytes of a step's answer.
 pub const ANSWER_BYTES: usize = 20;
 /// Bytes of an owner query's answer.
@@ -16,10 +20,10 @@ pub const OWNER_BYTES: usize = 4;
 /// Bytes of a record.
 pub const RECORD_BYTES: usize = 4 * RECORD_WORDS;
 
-/// The words of a record.
-fn carried(record: &[u8; RECORD_BYTES]) -> [u32; RECORD_WORDS] {
-    let mut words = [0; RECORD_WORDS];
-    for (word, four) in words.iter_mut().zip(record.chunks_exact(4)) {
+/// The words of a record, or of the cards beside it: as many as the bytes have.
+fn carried<const WORDS: usize>(bytes: &[u8]) -> [u32; WORDS] {
+    let mut words = [0; WORDS];
+    for (word, four) in words.iter_mut().zip(bytes.chunks_exact(4)) {
         *word = u32::from_le_bytes([four[0], four[1], four[2], four[3]]);
     }
     words
@@ -45,7 +49,7 @@ pub fn step<C: Check>(bytes: &mut [u8], operation: u32, x: u32, y: u32, out: &mu
     let Some(record) = bytes.get_mut(..RECORD_BYTES) else {
         return refusal::RECORD_SHORT;
     };
-    let mut words = carried((&*record).try_into().expect("as many bytes"));
+    let mut words = carried::<RECORD_WORDS>(record);
     let outcome = crate::step::<C, _>(&mut words, operation, x, y);
     code(outcome.map(|answer| {
         carry_back(record, &words);
@@ -61,7 +65,7 @@ pub fn owner<C: Check>(bytes: &[u8], number: u32, out: &mut [u8]) -> u32 {
     let Some(record) = bytes.get(..RECORD_BYTES) else {
         return refusal::RECORD_SHORT;
     };
-    let words = carried(record.try_into().expect("as many bytes"));
+    let words = carried::<RECORD_WORDS>(record);
     let outcome = crate::owner::<C, _>(&words, number);
     code(outcome.map(|hub| carry_back(out, &[hub])))
 }
@@ -69,6 +73,8 @@ pub fn owner<C: Check>(bytes: &[u8], number: u32, out: &mut [u8]) -> u32 {
 /// The calls on the bytes where they are.
 pub mod in_place {
     use super::*;
+
+    pub use super::cards::in_place::{offer, step_cards};
 
     /// A step.
     pub fn step<C: Check>(

@@ -12,6 +12,7 @@
 
 pub mod answer;
 pub mod bytes;
+pub mod cards;
 pub mod check;
 pub mod clockwise;
 mod fields;
@@ -32,6 +33,7 @@ mod well_formed;
 pub mod word;
 
 pub use answer::Answer;
+pub use cards::{fresh_by_cards, fresh_cards, offer, step_cards, BOOK_WORDS};
 pub use check::Check;
 pub use fields::Fields;
 pub use queries::owner;

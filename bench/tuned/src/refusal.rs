@@ -1,8 +1,8 @@
 //! The refusal numbers (document 01, 'Questions before a call, in order').
 
-/// Fewer than 1,988 words.
+/// Fewer than 1,988 words; fewer than 2,113 of the cards.
 pub const RECORD_SHORT: u32 = 1;
-/// The record is not well formed.
+/// The record is not well formed, or the cards beside it are not.
 pub const NOT_WELL_FORMED: u32 = 2;
 /// The operation is not 0 to 3.
 pub const NO_OPERATION: u32 = 3;
@@ -34,3 +34,9 @@ pub const NO_HOLDER: u32 = 15;
 pub const OUTPUT_SHORT: u32 = 17;
 /// The founder named is not below the hub count (document 02, 2026-02).
 pub const NO_FOUNDER: u32 = 18;
+/// The machine's card has a higher revision (document 02, 2026-04).
+pub const REVISION_LOWER: u32 = 22;
+/// The machine's card has this revision, and another price.
+pub const PRICE_DIFFERS: u32 = 23;
+/// A new machine, and 512 cards are kept.
+pub const CARDS_FULL: u32 = 24;

@@ -19,9 +19,14 @@ use crate::word::Word;
 /// Founds a ring: the hub with the smallest identifier inside, the others
 /// outside, no message (document 02, 2026-02).
 pub fn fresh<W: Word>(words: &mut [W], identifiers: &[W]) -> Result<(), u32> {
-    // Of no identifier at all, any place will do: that list is refused.
-    let smallest = (0..identifiers.len()).min_by_key(|&hub| identifiers[hub].get());
-    fresh_by(words, identifiers, smallest.unwrap_or(0) as u32)
+    fresh_by(words, identifiers, smallest(identifiers))
+}
+
+/// The place of the smallest identifier. Of none at all, any place will do:
+/// that list is refused.
+pub(crate) fn smallest<W: Word>(identifiers: &[W]) -> u32 {
+    let hub = (0..identifiers.len()).min_by_key(|&hub| identifiers[hub].get());
+    hub.unwrap_or(0) as u32
 }
 
 /// The same, by the hub that is named.
@@ -65,6 +70,18 @@ pub fn step<C: Check, W: Word>(
     y: u32,
 ) -> Result<Answer, u32> {
     let record = checked_mut::<C, W>(words)?;
+    run(record, operation, x, y, |_| Ok(()))
+}
+
+/// One command on a record that is well formed. What a delivery would answer
+/// is put before `last`, behind all other questions.
+pub(crate) fn run<W: Word>(
+    record: &mut Record<W>,
+    operation: u32,
+    x: u32,
+    y: u32,
+    last: impl FnOnce(Answer) -> Result<(), u32>,
+) -> Result<Answer, u32> {
     let n = record[N].get();
     let reads_y = match operation {
         0 | 2 => false,
@@ -78,7 +95,7 @@ pub fn step<C: Check, W: Word>(
         0 => ask(record, x, y),
         1 => join(record, x, y),
         2 => leave(record, x),
-        _ => deliver(record, x, y),
+        _ => deliver(record, x, y, last),
     }
 }
 
@@ -165,7 +182,12 @@ fn leave<W: Word>(record: &mut Record<W>, x: u32) -> Result<Answer, u32> {
 
 /// 3: the oldest message of the link. Deliver needs no room: what it sends
 /// takes the place that it made free.
-fn deliver<W: Word>(record: &mut Record<W>, from: u32, to: u32) -> Result<Answer, u32> {
+fn deliver<W: Word>(
+    record: &mut Record<W>,
+    from: u32,
+    to: u32,
+    last: impl FnOnce(Answer) -> Result<(), u32>,
+) -> Result<Answer, u32> {
     // Both words at once: a sender alone is no news worth a branch.
     let on_link = |words: &[W]| (words[1].get() == from) & (words[2].get() == to);
     let j = waiting(record)
@@ -174,6 +196,7 @@ fn deliver<W: Word>(record: &mut Record<W>, from: u32, to: u32) -> Result<Answer
     let start = message_start(j);
     let message = Message::of_words(&record[start..start + MESSAGE_WORDS]);
     let effect = receive(record, message)?;
+    last(effect.answer)?;
     effect.row.write(record, to);
     let m = record[M].get() as usize;
     record.copy_within(message_start(j + 1)..message_start(m), start);

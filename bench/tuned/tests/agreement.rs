@@ -4,6 +4,7 @@
 
 #[path = "../../../tests/model/tests/common/mod.rs"]
 mod common;
+mod shared;
 
 use common::driver::{command, identifiers, Mix, BUSY, CALM, FLOODED, SWAPPING};
 use common::records::any_state;
@@ -14,23 +15,7 @@ use ring_model::{Command, RECORD_WORDS};
 use ring_tuned::bytes as tuned;
 use ring_tuned::bytes::in_place;
 use ring_tuned::{Check, Fields, Ranges};
-
-/// Output longer than any answer, and what it holds before a call.
-const BEFORE: [u8; 23] = [0xBB; 23];
-
-fn bytes_of(words: &[u32]) -> Vec<u8> {
-    words.iter().flat_map(|word| word.to_le_bytes()).collect()
-}
-
-fn words_of(bytes: &[u8]) -> Vec<u32> {
-    let words = fours_of(bytes).into_iter();
-    words.map(u32::from_le_bytes).collect()
-}
-
-fn fours_of(bytes: &[u8]) -> Vec<[u8; 4]> {
-    let four = |part: &[u8]| [part[0], part[1], part[2], part[3]];
-    bytes.chunks_exact(4).map(four).collect()
-}
+use shared::{bytes_of, fours_of, words_of, BEFORE};
 
 /// One step of every model on the same record; the record afterwards.
 fn agreed_step(words: &[u32], command: Command) -> Vec<u32> {

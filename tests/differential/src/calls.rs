@@ -6,6 +6,7 @@ use ring_model::bytes::{ANSWER_BYTES, NO_REFUSAL};
 use ring_model::record::RECORD_WORDS;
 use ring_model::witness::StepCall;
 
+use crate::cards::calls::{CardCalls, ENGINE_CARDS};
 use crate::engine;
 use crate::form::Form;
 
@@ -28,6 +29,8 @@ pub struct Calls {
     pub step: fn(&mut [u8], u32, u32, u32, &mut [u8]) -> u32,
     /// `ring_owner`.
     pub owner: fn(&[u8], u32, &mut [u8]) -> u32,
+    /// The four calls with cards.
+    pub cards: CardCalls,
     /// `ring_sheet_read`.
     pub sheet_read: SheetRead,
     /// `ring_sheet_write`.
@@ -46,6 +49,7 @@ pub const ENGINE: Calls = Calls {
     fresh_by: engine::fresh_by,
     step: engine::step,
     owner: engine::owner,
+    cards: ENGINE_CARDS,
     sheet_read: engine::sheet_read,
     sheet_write: engine::sheet_write,
     word_step: engine_word_step,

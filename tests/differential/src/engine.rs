@@ -1,4 +1,4 @@
-//! The engine's six C calls, as functions on slices. This is the only file with `unsafe`.
+//! The engine's ten C calls, as functions on slices. This is the only file with `unsafe`.
 #![allow(unsafe_code)]
 
 extern "C" {
@@ -30,6 +30,43 @@ extern "C" {
         number: u32,
         out: *mut u8,
         out_len: usize,
+    ) -> u32;
+    fn ring_fresh_cards(
+        words: *mut u8,
+        words_len: usize,
+        cards: *mut u8,
+        cards_len: usize,
+        identifiers: *const u8,
+        identifiers_len: usize,
+    ) -> u32;
+    fn ring_fresh_by_cards(
+        words: *mut u8,
+        words_len: usize,
+        cards: *mut u8,
+        cards_len: usize,
+        identifiers: *const u8,
+        identifiers_len: usize,
+        founder: u32,
+    ) -> u32;
+    fn ring_step_cards(
+        words: *mut u8,
+        words_len: usize,
+        cards: *mut u8,
+        cards_len: usize,
+        operation: u32,
+        x: u32,
+        y: u32,
+        out: *mut u8,
+        out_len: usize,
+    ) -> u32;
+    fn ring_offer(
+        words: *const u8,
+        words_len: usize,
+        cards: *mut u8,
+        cards_len: usize,
+        machine: u32,
+        revision: u32,
+        price: u32,
     ) -> u32;
     fn ring_sheet_read(
         text: *const u8,
@@ -79,6 +116,76 @@ pub fn step(words: &mut [u8], operation: u32, x: u32, y: u32, out: &mut [u8]) ->
 pub fn owner(words: &[u8], key: u32, out: &mut [u8]) -> u32 {
     // SAFETY: as for fresh; the record is only read.
     unsafe { ring_owner(words.as_ptr(), words.len(), key, out.as_mut_ptr(), out.len()) }
+}
+
+/// Founds a ring and its cards by the smallest identifier.
+pub fn fresh_cards(words: &mut [u8], cards: &mut [u8], identifiers: &[u8]) -> u32 {
+    // SAFETY: as for fresh, of three slices.
+    unsafe {
+        ring_fresh_cards(
+            words.as_mut_ptr(),
+            words.len(),
+            cards.as_mut_ptr(),
+            cards.len(),
+            identifiers.as_ptr(),
+            identifiers.len(),
+        )
+    }
+}
+
+/// Founds a ring and its cards by the hub that is named.
+pub fn fresh_by_cards(words: &mut [u8], cards: &mut [u8], identifiers: &[u8], founder: u32) -> u32 {
+    // SAFETY: as for fresh, of three slices.
+    unsafe {
+        ring_fresh_by_cards(
+            words.as_mut_ptr(),
+            words.len(),
+            cards.as_mut_ptr(),
+            cards.len(),
+            identifiers.as_ptr(),
+            identifiers.len(),
+            founder,
+        )
+    }
+}
+
+/// Makes one step with cards: operation, x and y.
+pub fn step_cards(
+    words: &mut [u8],
+    cards: &mut [u8],
+    [operation, x, y]: [u32; 3],
+    out: &mut [u8],
+) -> u32 {
+    // SAFETY: as for fresh, of three slices.
+    unsafe {
+        ring_step_cards(
+            words.as_mut_ptr(),
+            words.len(),
+            cards.as_mut_ptr(),
+            cards.len(),
+            operation,
+            x,
+            y,
+            out.as_mut_ptr(),
+            out.len(),
+        )
+    }
+}
+
+/// Offers a card: machine, revision and price.
+pub fn offer(words: &[u8], cards: &mut [u8], [machine, revision, price]: [u32; 3]) -> u32 {
+    // SAFETY: as for fresh; the record is only read.
+    unsafe {
+        ring_offer(
+            words.as_ptr(),
+            words.len(),
+            cards.as_mut_ptr(),
+            cards.len(),
+            machine,
+            revision,
+            price,
+        )
+    }
 }
 
 /// Reads a sheet.

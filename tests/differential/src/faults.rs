@@ -14,6 +14,7 @@ use ring_model::refusal::{
 use ring_model::Answer;
 
 use crate::calls::{answer_of, put_word, word_at, words_of, Calls, ENGINE, RECORD_BYTES};
+use crate::cards::wrong;
 use crate::engine;
 use crate::filters::{FILTERS, NO_FAULT};
 use crate::parts::PARTS;
@@ -34,9 +35,14 @@ thread_local! {
 
 /// Whether a seldom fault shows in this call.
 fn seldom() -> bool {
+    one_in(SELDOM)
+}
+
+/// True for one in so many calls.
+pub fn one_in(many: u64) -> bool {
     CALLS.with(|calls| {
         calls.set(calls.get() + 1);
-        calls.get() % SELDOM == 0
+        calls.get() % many == 0
     })
 }
 
@@ -72,7 +78,8 @@ pub fn faults() -> Vec<Fault> {
     let steps = STEPS.iter().map(|&(name, part, step)| fault(name, part, Calls { step, ..ENGINE }));
     let filtered = |&(name, inspect)| fault(name, "inspect", Calls { inspect, ..ENGINE });
     let others = other_faults().into_iter().chain(FILTERS.iter().map(filtered));
-    steps.chain(wrong_foundings()).chain(wrong_sheets()).chain(others).collect()
+    let cards = wrong::faults().into_iter().map(|(name, part, calls)| fault(name, part, calls));
+    steps.chain(wrong_foundings()).chain(wrong_sheets()).chain(cards).chain(others).collect()
 }
 
 /// Wrong foundings of both forms.
@@ -122,14 +129,17 @@ impl Fault {
     }
 }
 
-/// That `inspect` passes behind a filter that changes nothing, and the sheet calls behind what
-/// makes them wrong elsewhere: it is the faults that are seen there, not their wrapping.
-pub fn wrappings_pass(seed: u64) -> [(&'static str, bool); 2] {
+/// That `inspect` passes behind a filter that changes nothing, and the calls with sheets and cards
+/// behind what makes them wrong elsewhere: the faults are seen there, not their wrapping.
+pub fn wrappings_pass(seed: u64) -> [(&'static str, bool); 4] {
     let filter = Calls { inspect: NO_FAULT, ..ENGINE };
     let sheets = Calls { sheet_read: same_read, sheet_write: same_write, ..ENGINE };
+    let cards = "calls with cards that change nothing are not found wrong";
     [
         ("a filter that changes nothing is not found wrong", "inspect", filter),
         ("sheet calls that change nothing are not found wrong", "sheets", sheets),
+        (cards, "cards", wrong::same()),
+        (cards, "damaged_cards", wrong::same()),
     ]
     .map(|(name, part, calls)| (name, !Fault { name, part, calls }.is_seen_within(seed, UNFAULTED)))
 }

@@ -1,7 +1,7 @@
 //! The two forms of founding (document 02, 2026-02): by the smallest identifier, or by the hub that
 //! the caller names.
 
-use ring_model::bytes::{ring_fresh, ring_fresh_by};
+use ring_model::bytes::{ring_fresh, ring_fresh_by, ring_fresh_by_cards, ring_fresh_cards};
 use ring_model::frames::FOUNDER;
 use ring_model::generator::Generator;
 use ring_model::step::{fresh, fresh_by, smallest};
@@ -48,6 +48,14 @@ impl Form {
         match self {
             Form::Smallest => ring_fresh(words, identifiers),
             Form::By(founder) => ring_fresh_by(words, identifiers, founder),
+        }
+    }
+
+    /// Founds with cards on bytes, as the model has it.
+    pub fn with_cards(self, words: &mut [u8], cards: &mut [u8], identifiers: &[u8]) -> u32 {
+        match self {
+            Form::Smallest => ring_fresh_cards(words, cards, identifiers),
+            Form::By(founder) => ring_fresh_by_cards(words, cards, identifiers, founder),
         }
     }
 }

@@ -50,13 +50,13 @@ fn found(
 }
 
 /// Founders at both ends of the list and behind it, at the limits of hub numbers, and any.
-fn founders(generator: &mut Generator, n: u32) -> Vec<u32> {
+pub fn founders(generator: &mut Generator, n: u32) -> Vec<u32> {
     let (hub, any) = (generator.below(n), generator.next_u32());
     vec![0, n.wrapping_sub(1), n, n + 1, 63, 64, 255, 256, u32::MAX, hub, any]
 }
 
 /// Identifiers as bytes.
-fn some_identifiers(generator: &mut Generator, count: usize, repeats: bool) -> Vec<u8> {
+pub fn some_identifiers(generator: &mut Generator, count: usize, repeats: bool) -> Vec<u8> {
     let mut names = if count == 0 { Vec::new() } else { identifiers(generator, count) };
     if count > 0 {
         let place = [0, count - 1, count / 2, generator.below(count as u32) as usize];

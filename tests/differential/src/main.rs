@@ -1,7 +1,7 @@
 //! The engine beside the model of documents 01 and 02: the C calls on lent bytes, `ringrun` and
-//! `inspect`, on random and on hostile input, office sheets among it. Every returned number, every
-//! byte of record and output, and the bytes around them are compared; runs from fresh are held to
-//! demand 3 as well.
+//! `inspect`, on random and on hostile input, price cards and office sheets among it. Every
+//! returned number, every byte of record, cards and output, and the bytes around them are compared;
+//! runs from fresh are held to demand 3 as well, and those with cards to what is claimed of cards.
 //!
 //! Usage, from the repository's folder: `differential SEED SECONDS`, or `differential SEED 0 PART
 //! BATCH` to run one batch again.
@@ -10,6 +10,7 @@
 #![warn(missing_docs)]
 
 mod calls;
+mod cards;
 mod claims;
 mod damaged;
 mod driver;
@@ -47,15 +48,17 @@ use std::process::ExitCode;
 use std::time::{Duration, Instant};
 
 use crate::calls::ENGINE;
+use crate::cards::counts::CardCounts;
 use crate::parts::PARTS;
 use crate::reached::Reached;
 use crate::schedule::{run_all, Report, LONG};
 use crate::sheets::counts::Sheets;
 
-/// From so many calls on, so many lines of `inspect` and so many texts that might be sheets,
-/// everything must have been reached.
+/// From so many calls on, so many lines of `inspect`, so many calls with cards and so many texts
+/// that might be sheets, everything must have been reached.
 const ENOUGH: u64 = 1_000_000;
 const ENOUGH_LINES: u64 = 150_000;
+const ENOUGH_WITH_CARDS: u64 = 100_000;
 const ENOUGH_TEXTS: u64 = 2_000_000;
 // A long run must make so many calls. A shorter one may make fewer, and then says that it skips
 // the test of what was reached.
@@ -92,6 +95,7 @@ fn main() -> ExitCode {
 /// Faults planted on purpose: each must be seen, or the parts that follow prove nothing.
 fn planted(seed: u64, score: &mut Score) {
     let mut cases = wrong_claims::cases();
+    cases.extend(cards::wrong_claims::cases());
     cases.extend(faults::faults().iter().map(|fault| (fault.name, fault.is_seen(seed))));
     cases.extend(faults::wrappings_pass(seed));
     println!("{} planted faults", cases.len());
@@ -122,10 +126,11 @@ fn all(seed: u64, seconds: u64) -> ExitCode {
         score.note(report.differences.is_empty() && report.batches > 0);
     }
     println!(
-        "in all: {} calls, {:.0} a second, {} lines, and {} texts",
+        "in all: {} calls, {:.0} a second, {} lines, {} calls with cards, and {} texts",
         sum.calls,
         sum.calls as f64 / took,
         sum.lines,
+        sum.cards.calls,
         sum.sheets.texts
     );
     print!("reached:\n{}", sum.table());
@@ -143,6 +148,9 @@ fn too_few(sum: &Reached) -> Option<String> {
     }
     if sum.inspected.lines < ENOUGH_LINES {
         return Some(format!("inspect answered fewer than {ENOUGH_LINES} lines"));
+    }
+    if sum.cards.calls < ENOUGH_WITH_CARDS {
+        return Some(format!("fewer than {ENOUGH_WITH_CARDS} calls with cards were made"));
     }
     let few = sum.sheets.texts < ENOUGH_TEXTS;
     few.then(|| format!("fewer than {ENOUGH_TEXTS} texts were read as sheets"))
@@ -164,7 +172,9 @@ fn reached_all(sum: &Reached) -> bool {
 /// One part's line.
 fn line(name: &str, report: &Report) -> String {
     let Report { reached, batches, time, .. } = report;
-    let (calls, tried, lines) = (reached.calls, reached.tried, reached.lines);
+    let CardCounts { calls: with_cards, tried: tried_with_cards, .. } = reached.cards;
+    let (calls, tried) = (reached.calls + with_cards, reached.tried + tried_with_cards);
+    let lines = reached.lines;
     let Sheets { texts, lists, .. } = reached.sheets;
     let rate = (calls + lines + texts + lists) as f64 / time.as_secs_f64().max(0.001);
     let counts = match (tried, lines, texts) {

@@ -5,6 +5,7 @@ use ring_model::kinds::{as_required, LEAVEDONE, LOOKUP};
 use ring_model::record::{Message, State, MAX_HOPS, MAX_MESSAGES};
 use ring_model::{Answer, Command};
 
+use crate::cards::counts::CardCounts;
 use crate::form::Form;
 use crate::founded::Founded;
 use crate::inspected::Inspected;
@@ -30,6 +31,8 @@ pub struct Reached {
     pub founded: Founded,
     /// What `inspect` said.
     pub inspected: Inspected,
+    /// What the calls with cards were about. They are counted there alone.
+    pub cards: CardCounts,
     /// What the sheets were about. Their calls are counted there alone.
     pub sheets: Sheets,
     /// The most nodes that were in the ledger at once.
@@ -108,6 +111,7 @@ impl Reached {
         self.lines += other.lines;
         self.founded.add(&other.founded);
         self.inspected.add(&other.inspected);
+        self.cards.add(&other.cards);
         self.sheets.add(&other.sheets);
         self.most_members = self.most_members.max(other.most_members);
         add_all(&mut self.refusals, &other.refusals);
@@ -145,7 +149,8 @@ impl Reached {
             ("LOOKUPs delivered with hops at 65535", one(self.hops_stay)),
             ("LOOKUPs delivered to their own sender", one(self.to_itself)),
         ];
-        let others = [self.founded.rows(), self.inspected.rows(), self.sheets.rows()];
+        let others =
+            [self.founded.rows(), self.inspected.rows(), self.cards.rows(), self.sheets.rows()];
         calls.into_iter().chain(others.into_iter().flatten()).collect()
     }
 

@@ -1,14 +1,16 @@
 //! The calls on bytes, as the C boundary has them (document 01, 'Reading the
-//! ring'): four bytes a word, lowest first. The office sheet's are in a file of
-//! their own.
+//! ring'): four bytes a word, lowest first. The office sheet's and those with
+//! cards are in files of their own.
 
 use crate::queries::owner;
 use crate::record::RECORD_WORDS;
 use crate::refusal;
 use crate::step::{fresh, fresh_by, step};
 
+mod cards;
 mod sheet;
 
+pub use cards::{ring_fresh_by_cards, ring_fresh_cards, ring_offer, ring_step_cards};
 pub use sheet::{give_hubs, give_text, ring_sheet_read, ring_sheet_write, COUNTS_BYTES};
 
 /// Nothing was refused.

@@ -31,6 +31,14 @@ impl Membership {
         }
     }
 
+    /// The membership of these nodes, which no ring need have come to.
+    pub fn of(identifiers: &[u32], members: &[u32]) -> Membership {
+        Membership {
+            identifiers: identifiers.to_vec(),
+            members: members.iter().copied().collect(),
+        }
+    }
+
     /// The members, lowest node number first.
     pub fn members(&self) -> &BTreeSet<u32> {
         &self.members

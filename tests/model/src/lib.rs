@@ -10,6 +10,7 @@
 
 pub mod answer;
 pub mod bytes;
+pub mod cards;
 pub mod clockwise;
 pub mod command;
 pub mod frames;

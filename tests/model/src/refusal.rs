@@ -2,9 +2,9 @@
 //! and of document 02. Each is the number returned on a no to the question
 //! named beside it.
 
-/// Are there 1,988 words?
+/// Are there 1,988 words? Are there 2,113 for the cards?
 pub const RECORD_SHORT: u32 = 1;
-/// Is the record well formed?
+/// Is the record well formed? Are the cards beside it?
 pub const NOT_WELL_FORMED: u32 = 2;
 /// Is the operation 0 to 3?
 pub const NO_SUCH_OPERATION: u32 = 3;
@@ -44,3 +44,9 @@ pub const NO_SHEET: u32 = 19;
 pub const IDENTIFIER_TOO_LARGE: u32 = 20;
 /// Are the outputs long enough for what is to be written?
 pub const ROOM_SHORT: u32 = 21;
+/// Is the revision at least the kept card's?
+pub const REVISION_LOWER: u32 = 22;
+/// Has an equal revision the same price?
+pub const PRICE_DIFFERS: u32 = 23;
+/// Are fewer than 512 cards kept, for a new machine?
+pub const CARDS_FULL: u32 = 24;

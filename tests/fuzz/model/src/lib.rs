@@ -82,6 +82,97 @@ pub unsafe extern "C" fn model_owner(
     )
 }
 
+/// `ring_fresh_cards` as the model has it.
+///
+/// # Safety
+/// As for `model_fresh`.
+#[no_mangle]
+pub unsafe extern "C" fn model_fresh_cards(
+    words: *mut u8,
+    words_len: usize,
+    cards: *mut u8,
+    cards_len: usize,
+    identifiers: *const u8,
+    identifiers_len: usize,
+) -> u32 {
+    bytes::ring_fresh_cards(
+        from_raw_parts_mut(words, words_len),
+        from_raw_parts_mut(cards, cards_len),
+        from_raw_parts(identifiers, identifiers_len),
+    )
+}
+
+/// `ring_fresh_by_cards` as the model has it.
+///
+/// # Safety
+/// As for `model_fresh`.
+#[no_mangle]
+pub unsafe extern "C" fn model_fresh_by_cards(
+    words: *mut u8,
+    words_len: usize,
+    cards: *mut u8,
+    cards_len: usize,
+    identifiers: *const u8,
+    identifiers_len: usize,
+    founder: u32,
+) -> u32 {
+    bytes::ring_fresh_by_cards(
+        from_raw_parts_mut(words, words_len),
+        from_raw_parts_mut(cards, cards_len),
+        from_raw_parts(identifiers, identifiers_len),
+        founder,
+    )
+}
+
+/// `ring_step_cards` as the model has it.
+///
+/// # Safety
+/// As for `model_fresh`.
+#[no_mangle]
+pub unsafe extern "C" fn model_step_cards(
+    words: *mut u8,
+    words_len: usize,
+    cards: *mut u8,
+    cards_len: usize,
+    operation: u32,
+    x: u32,
+    y: u32,
+    out: *mut u8,
+    out_len: usize,
+) -> u32 {
+    bytes::ring_step_cards(
+        from_raw_parts_mut(words, words_len),
+        from_raw_parts_mut(cards, cards_len),
+        operation,
+        x,
+        y,
+        from_raw_parts_mut(out, out_len),
+    )
+}
+
+/// `ring_offer` as the model has it.
+///
+/// # Safety
+/// As for `model_fresh`.
+#[no_mangle]
+pub unsafe extern "C" fn model_offer(
+    words: *const u8,
+    words_len: usize,
+    cards: *mut u8,
+    cards_len: usize,
+    machine: u32,
+    revision: u32,
+    price: u32,
+) -> u32 {
+    bytes::ring_offer(
+        from_raw_parts(words, words_len),
+        from_raw_parts_mut(cards, cards_len),
+        machine,
+        revision,
+        price,
+    )
+}
+
 /// `ring_sheet_read` as the model has it.
 ///
 /// # Safety

@@ -178,8 +178,8 @@ fn kind_name(kind: u32) -> &'static str {
 }
 
 /// The name of a refusal number. No line is refused by 18, since a founding
-/// frame names hub 0, nor by the sheet's 19 to 21; but each number has its
-/// name.
+/// frame names hub 0, nor by the sheet's 19 to 21 or an offer's 22 to 24; but
+/// each number has its name.
 pub fn refusal_name(number: u32) -> &'static str {
     match number {
         refusal::RECORD_SHORT => "record short",
@@ -203,6 +203,9 @@ pub fn refusal_name(number: u32) -> &'static str {
         refusal::NO_SHEET => "no sheet",
         refusal::IDENTIFIER_TOO_LARGE => "identifier too large",
         refusal::ROOM_SHORT => "room short",
+        refusal::REVISION_LOWER => "revision lower",
+        refusal::PRICE_DIFFERS => "price differs",
+        refusal::CARDS_FULL => "cards full",
         _ => unreachable!("the documents have no such refusal"),
     }
 }

@@ -9,7 +9,7 @@ use super::{ask, holding, last};
 use crate::common::{inside, message, outside, record, Run};
 
 /// The names, in the order of their numbers.
-pub const NAMES: [&str; 21] = [
+pub const NAMES: [&str; 24] = [
     "record short",
     "not well formed",
     "no operation",
@@ -31,6 +31,9 @@ pub const NAMES: [&str; 21] = [
     "no sheet",
     "identifier too large",
     "room short",
+    "revision lower",
+    "price differs",
+    "cards full",
 ];
 
 fn refused(number: usize) -> String {

@@ -1,0 +1,156 @@
+//! The calls that are lent a card slice: the engine beside the models, and
+//! beside itself without cards.
+//!
+//! Record and cards together fill half of the nearest cache, so there is one
+//! copy of them. It is restored outside the timed section, and lies elsewhere
+//! in each round.
+
+use std::hint::black_box;
+use std::time::Instant;
+
+use crate::turns::{in_passes, median, Rounds, Time};
+
+mod books;
+mod cases;
+mod contestants;
+mod growth;
+mod report;
+mod rings;
+
+use cases::Case;
+use contestants::{Contestant, Lent, CONTESTANTS, COUNT, IDLE, PLAIN, WITHOUT};
+
+pub use report::section;
+
+/// Timed sections of one contestant's turn; one more before them is not counted.
+const SECTIONS: usize = 8;
+/// Both begin at a multiple of this, as memory from malloc does.
+const ALIGNED: usize = 16;
+/// They move within a page.
+const PAGE: usize = 4096;
+/// How far they move from round to round.
+const MOVE: usize = 17 * ALIGNED;
+
+/// One case's figures, by contestant.
+pub struct Figures {
+    case: Case,
+    times: [Time; COUNT],
+}
+
+/// Measures all contestants on all cases.
+pub fn measure(rounds: usize) -> Vec<Figures> {
+    let mut list: Vec<Measurement> = cases::all().into_iter().map(Measurement::new).collect();
+    in_passes(&mut list, rounds, Measurement::pass);
+    list.into_iter().map(Measurement::figures).collect()
+}
+
+/// Memory that all contestants work on.
+struct Room {
+    memory: Vec<u8>,
+    begin: usize,
+    out: [u8; 20],
+}
+
+impl Room {
+    fn new(case: &Case) -> Room {
+        let size = case.record.len() + case.book.len();
+        Room {
+            memory: vec![0; size + PAGE + 2 * ALIGNED],
+            begin: 0,
+            out: [0; 20],
+        }
+    }
+
+    fn move_on(&mut self, round: usize) {
+        let address = self.memory.as_ptr() as usize;
+        let aligned = address.next_multiple_of(ALIGNED) - address;
+        self.begin = aligned + round * MOVE % PAGE;
+    }
+
+    /// Nanoseconds for one call on the restored copy.
+    fn section(&mut self, contestant: &Contestant, case: &Case) -> f64 {
+        let (record, rest) = self.memory[self.begin..].split_at_mut(case.record.len());
+        let book = &mut rest[case.record.len().next_multiple_of(ALIGNED) - case.record.len()..];
+        let mut lent = Lent {
+            record,
+            book: &mut book[..case.book.len()],
+            out: &mut self.out,
+        };
+        lent.record.copy_from_slice(&case.record);
+        lent.book.copy_from_slice(&case.book);
+        let call = black_box(case.call);
+        let start = Instant::now();
+        black_box(contestant.call(call, &mut lent));
+        start.elapsed().as_nanos() as f64
+    }
+
+    /// One turn: the times of its sections.
+    fn turn(&mut self, contestant: &Contestant, case: &Case) -> [f64; SECTIONS] {
+        self.section(contestant, case);
+        [(); SECTIONS].map(|()| self.section(contestant, case))
+    }
+}
+
+/// A case, and what was found so far.
+struct Measurement {
+    case: Case,
+    rounds: Rounds<COUNT>,
+}
+
+impl Measurement {
+    fn new(case: Case) -> Measurement {
+        agree(&case);
+        Measurement {
+            case,
+            rounds: Rounds::new(),
+        }
+    }
+
+    /// So many rounds more.
+    fn pass(&mut self, rounds: usize) {
+        let Measurement { case, rounds: all } = self;
+        let mut room = Room::new(case);
+        for _ in 0..rounds {
+            room.move_on(all.count());
+            let idle = median(&mut room.turn(&IDLE, case));
+            all.round(|who| room.turn(&CONTESTANTS[who], case).map(|time| time - idle));
+        }
+    }
+
+    fn figures(self) -> Figures {
+        Figures {
+            case: self.case,
+            times: self.rounds.times(),
+        }
+    }
+}
+
+/// What a contestant makes of the case: return, output, record and cards.
+fn outcome(contestant: &Contestant, case: &Case) -> (u32, [u8; 20], Vec<u8>, Vec<u8>) {
+    let (mut record, mut book) = (case.record.clone(), case.book.clone());
+    let mut out = [0xBB; 20];
+    let mut lent = Lent {
+        record: &mut record,
+        book: &mut book,
+        out: &mut out,
+    };
+    let number = contestant.call(case.call, &mut lent);
+    (number, out, record, book)
+}
+
+/// Nothing is measured that does not do the same as the plain model. Without
+/// cards a step answers the same and leaves the same record.
+fn agree(case: &Case) {
+    let place = case.place();
+    let expected = outcome(&CONTESTANTS[PLAIN], case);
+    assert_eq!(expected.0, 0, "{place}");
+    assert_eq!(expected.3 != case.book, case.changes_cards, "{place}");
+    for contestant in &CONTESTANTS[..WITHOUT] {
+        let same = outcome(contestant, case) == expected;
+        assert!(same, "{} differs: {place}", contestant.name);
+    }
+    let bare = outcome(&CONTESTANTS[WITHOUT], case);
+    let same = (bare.0, &bare.2, &bare.3) == (0, &expected.2, &case.book);
+    assert!(same, "{place}, without cards");
+    assert!(case.is_offer() || bare.1 == expected.1, "{place}");
+}
