@@ -10,12 +10,11 @@ use native.Mathlib.Omega.{arith}
 use lib.Dec.{T, eqb, eqb→eq, T-not}
 use lib.ListN.{getD, length, set}
 use lib.Seq.{getD-set-same, getD-set-other}
-use Rattle.lists.specs.Basics.{if_then_else_, Mem, every, distinct, table}
+use Rattle.lists.specs.Basics.{if_then_else_, distinct, table}
 use Rattle.lists.specs.Choice.{choose, passes}
-use Rattle.lists.specs.Members.{filled, mem-at, place}
-use Rattle.lists.specs.Tests.{says-every, says-so, T-true, true-T, →eqb}
-use Rattle.lists.specs.Blocks.{length-table, getD-table}
-use Rattle.lists.specs.Merge.{merged, merged-test, failure-test, distinct-none}
+use Rattle.lists.specs.Members.{filled}
+use Rattle.lists.specs.Tests.{→eqb}
+use Rattle.lists.specs.Merge.{merged, merged-each, each-merged, distinct-none}
 use Rattle.card_checks.specs.Buckets.{unmet, unmet-yes, unmet-no, distinct-more, distinct-fails}
 
 -- one more than the first place below n at which s is b, or 0
@@ -227,23 +226,13 @@ meets f n i j k l e = distinct-fails f (i + 1) n (distinct-more f i ∙ ap (λ z
 abbrev pub following : ℕ → List ℕ → ℕ
 following m groups = merged m (λ i. if eqb (getD groups i 0) (i + 1) then 0 else 1)
 
-module _ (m : ℕ) (groups : List ℕ) where
-  abbrev leads : ℕ → Bool
-  leads i = eqb (getD groups i 0) (i + 1)
+all-lead : (m : ℕ) (groups : List ℕ) → following m groups ≡ 0 → (i : ℕ) → i < m → getD groups i 0 ≡ i + 1
+all-lead m groups e i l =
+    choose (λ z. z ≡ 0 → getD groups i 0 ≡ i + 1) (eqb (getD groups i 0) (i + 1)) 0 1 (λ t _. eqb→eq _ _ t) (λ _ q. absurd (omega (arith, q)))
+    (merged-each (λ i. if eqb (getD groups i 0) (i + 1) then 0 else 1) m e i l)
 
-  all-lead : following m groups ≡ 0 → (i : ℕ) → i < m → getD groups i 0 ≡ i + 1
-  all-lead e i l =
-      let t = true-T _ (sym (merged-test _ leads (λ i. i) m (λ i l. failure-test (leads i))) ∙ ap (λ z. eqb z 0) e) in
-      eqb→eq _ _ (says-every leads (λ j. T (leads j)) (λ j. says-so (leads j)) (table m (λ i. i)) .to t i
-      (subst (λ z. Mem z (table m (λ i. i))) (getD-table m (λ i. i) i 0 l) (mem-at (table m (λ i. i)) i 0 (omega (arith, length-table m (λ i. i))))))
-
-  none-follows : ((i : ℕ) → i < m → getD groups i 0 ≡ i + 1) → following m groups ≡ 0
-  none-follows h = eqb→eq _ 0 (true-T _ (merged-test _ leads (λ i. i) m (λ i l. failure-test (leads i))
-      ∙ T-true _ (says-every leads (λ j. T (leads j)) (λ j. says-so (leads j)) (table m (λ i. i)) .fro
-      (λ i k. (let p = place i (table m (λ i. i)) 0 k in
-      let l : p .0 < m = omega (arith, p .1, length-table m (λ i. i)) in
-      let e : i ≡ p .0 = sym (p .2) ∙ getD-table m (λ i. i) (p .0) 0 l in
-      →eqb _ _ (h i (omega arith)))))))
+none-follows : (m : ℕ) (groups : List ℕ) → ((i : ℕ) → i < m → getD groups i 0 ≡ i + 1) → following m groups ≡ 0
+none-follows m groups h = each-merged _ m (λ i l. passes (λ (z : ℕ). z ≡ 0) (eqb (getD groups i 0) (i + 1)) 0 1 (→eqb _ _ (h i l)) refl)
 
 -- Where each card leads its group, after however many passes, the machines differ.
 pub grouped-yes : (f : ℕ → ℕ) (m left : ℕ) (rest groups : List ℕ) → Grouped f m left rest groups → following m groups ≡ 0 → distinct (table m f) ≡ true

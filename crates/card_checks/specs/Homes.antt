@@ -98,7 +98,7 @@ module _ (ids names marks : List ℕ) (N : Names ids) (C : Copied names ids) (M 
   id h = getD ids h 0
 
   -- a card is at home, by the tables
-  pub home-test : length marks ≡ mostNodes → (reaches : List ℕ) → ((h : ℕ) → h < length ids → getD reaches h 0 ≡ reach names marks h)
+  pub home-test : length marks ≡ mostNodes → (reaches : List ℕ) → ((h : ℕ) → Marked marks h → getD reaches h 0 ≡ reach names marks h)
       → (v hub : ℕ) → v < round → atHome names marks reaches v hub ≡ eqb hub (home ids (marked marks) v)
   unfolding atHome
   home-test size reaches table v hub lv =
@@ -114,7 +114,7 @@ module _ (ids names marks : List ℕ) (N : Names ids) (C : Copied names ids) (M 
           let e : hub % 64 ≡ hub = mod-eq-of-lt {n = hub} {m = 64} (k .0 .0) in
           let m : Marked marks hub = record { below = omega (arith, size, k .0 .0); at = subst (λ z. getD marks z 0 ≡ 1) e (k .0 .1) } in
           let l : dist round v (id hub) ≤ reach ids marks hub =
-          omega (arith, subst (λ z. dist round v (getD names z 0) ≤ getD reaches z 0) e (k .1), ap (dist round v) (C .at hub), table hub (M .below hub m), reach-same ids names marks C hub) in
+          omega (arith, subst (λ z. dist round v (getD names z 0) ≤ getD reaches z 0) e (k .1), ap (dist round v) (C .at hub), table hub m, reach-same ids names marks C hub) in
           sym (home-is (reach-owns ids marks N (M .below) hub v lv m l))
 
       back : hub ≡ home ids (marked marks) v → Passed
@@ -128,7 +128,7 @@ module _ (ids names marks : List ℕ) (N : Names ids) (C : Copied names ids) (M 
           let w = owns-reach ids marks N (M .below) (o .0) v lv (λ k i. o .1 .least k (marked-mem marks k i)) in (
             (l, subst (λ z. getD marks z 0 ≡ 1) (sym (r ∙ q)) (m .at)),
             subst (λ z. dist round v (getD names z 0) ≤ getD reaches z 0) (sym (r ∙ q))
-                (omega (arith, ap (dist round v) (C .at (o .0)), table (o .0) (M .below (o .0) m), reach-same ids names marks C (o .0))),
+                (omega (arith, ap (dist round v) (C .at (o .0)), table (o .0) m, reach-same ids names marks C (o .0))),
           )
 
   -- the nearest member is the owner
@@ -175,7 +175,7 @@ module _ (ids names marks : List ℕ) (N : Names ids) (C : Copied names ids) (M 
 
 -- Every card is at home: the merged failures of the cards.
 pub homes-law : (ids names marks : List ℕ) → Names ids → Copied names ids → MarksForm (length ids) marks → length marks ≡ mostNodes
-    → (reaches : List ℕ) → ((h : ℕ) → h < length ids → getD reaches h 0 ≡ reach names marks h)
+    → (reaches : List ℕ) → ((h : ℕ) → Marked marks h → getD reaches h 0 ≡ reach names marks h)
     → (k : List ℕ) → ((i : ℕ) → getD k i 0 < round) → (m r : ℕ)
     → r ≡ merged m (λ j. if atHome names marks reaches (getD k (cardStart j) 0) (getD k (cardStart j + 3) 0) then 0 else 1)
     → eqb r 0 ≡ every (λ c. eqb (c .hub) (home ids (marked marks) (c .machine))) (table m (λ j. cardFrom k (cardStart j)))

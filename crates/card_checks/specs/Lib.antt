@@ -2,5 +2,6 @@ pub mod Buckets
 pub mod Digits
 pub mod Marks
 pub mod Homes
+pub mod Preds
 pub mod Content
 pub mod Ready

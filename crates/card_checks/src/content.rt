@@ -1,8 +1,8 @@
 // Is the card slice well formed beside its record? The questions in turn; `names` are the record's identifiers, side by side.
 use crate::machines::machines_differ;
 use crate::marks::marks_ok;
-use crate::owners::fill_reaches;
 use crate::owners::strays;
+use crate::preds::member_reaches;
 use protocol::form::BOOK_WORDS;
 use protocol::form::CARD_WORDS;
 use protocol::form::CARDS_AT;
@@ -15,7 +15,7 @@ ghost use Prim.Native.Nat.{ℕ, _≤_, _<_};
 ghost use lib.Dec.{eqb};
 ghost use lib.ListN.{length, getD};
 ghost use Rattle.lists.specs.Basics.{table, every};
-ghost use Rattle.protocol.specs.Record.{round, mostNodes, countIn, read};
+ghost use Rattle.protocol.specs.Record.{mostNodes, recordSize, read};
 ghost use Rattle.protocol.specs.WellFormed.{identifiers};
 ghost use Rattle.protocol.specs.Cards.{mostCards, bookSize, cardsIn, marksIn, cardFrom, cardStart, marked, home, bookOk};
 ghost use Rattle.layout.specs.Form.{Valid};
@@ -24,13 +24,13 @@ ghost use Rattle.cardlayout.specs.Sound.{MarksForm};
 ghost use Rattle.card_checks.specs.Homes.{Copied};
 
 // 0 where each of the m cards is with its owner among the n nodes that are marked.
-fn bad_homes(k: &[u32], n: u32, m: u32, names: &[u32]) -> u32
-    requires { ⌜ (n ≤ mostNodes) × (m ≤ mostCards) × (bookSize ≤ length (now k)) × (length (now names) ≡ mostNodes) ⌝ }
+fn bad_homes(w: &[u32], k: &[u32], n: u32, m: u32, names: &[u32]) -> u32
+    requires { ⌜ (n ≤ mostNodes) × (recordSize ≤ length (now w)) × (m ≤ mostCards) × (bookSize ≤ length (now k)) × (length (now names) ≡ mostNodes) ⌝ }
     ensures { λ r. ⌜ ((ids : List ℕ) → Names ids → Copied (now (names .entry)) ids → length ids ≡ n → MarksForm n (marksIn (now (k .entry))) → eqb r 0 ≡ every (λ c. eqb (c .hub) (home ids (marked (marksIn (now (k .entry)))) (c .machine))) (table m (λ j. cardFrom (now (k .entry)) (cardStart j)))) ⌝ }
 {
     let mut reaches = [0u32; 64];
     let marks = &k[MARKS_AT..CARDS_AT];
-    fill_reaches(names, marks, n as usize, &mut reaches);
+    member_reaches(w, names, marks, n as usize, &mut reaches);
     strays(k, m as usize, names, marks, &reaches)
 }
 
@@ -53,5 +53,5 @@ pub fn book_ok(w: &[u32], names: &[u32], k: &[u32]) -> bool
     if !machines_differ(k, m) {
         return false;
     }
-    bad_homes(k, n, m, names) == 0
+    bad_homes(w, k, n, m, names) == 0
 }

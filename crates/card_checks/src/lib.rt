@@ -5,6 +5,7 @@ mod digits;
 mod machines;
 mod marks;
 mod owners;
+mod preds;
 
 pub use content::book_ok;
 pub use marks::others;

@@ -39,7 +39,7 @@ pub fn pick_word(test: bool, a: u32, b: u32) -> u32
 }
 
 // How far b's numbers reach back if a comes before it: all the way round where a is b.
-fn gap(a: u32, b: u32) -> u32
+pub(crate) fn gap(a: u32, b: u32) -> u32
     ensures { λ r. ⌜ r ≡ gapSpec a b ⌝ }
 {
     if a == b {

@@ -4,6 +4,7 @@ use mathlib.Core.Logic.{_⊎_, inl, inr}
 use mathlib.Core.Bool.{Bool, true, false, not, _&&_, _||_}
 use mathlib.Core.List.{List, [], _∷_, _++_}
 use Prim.Native.Nat.{ℕ, zero, suc, _+_, _<_}
+use native.Mathlib.Decide.{ℕ-discrete}
 use native.Mathlib.Numerals.{add-one}
 use native.Mathlib.Omega.{arith}
 use lib.Bits.{bitOr, or-add-and, and-le-l, and-le-r}
@@ -63,6 +64,17 @@ unfolding merged table every
 merged-test f q g zero e = refl
 merged-test f q g (suc n) e =
     or-test (merged n f) (f n) ∙ ap₂ (λ a b. a && b) (merged-test f q g n (λ i l. e i (omega arith))) (e n (omega arith)) ∙ sym (every-last q (table n g) (g n))
+
+-- Merged they are 0 exactly where each is.
+pub merged-each : (f : ℕ → ℕ) (n : ℕ) → merged n f ≡ 0 → (i : ℕ) → i < n → f i ≡ 0
+unfolding merged
+merged-each f zero e i l = absurd (omega arith)
+merged-each f (suc n) e i l = let p = or-parts (merged n f) (f n) e in elim (ℕ-discrete i n) [ yes q ↦ ap f q ∙ p .1 | no q ↦ merged-each f n (p .0) i (omega arith) ]
+
+pub each-merged : (f : ℕ → ℕ) (n : ℕ) → ((i : ℕ) → i < n → f i ≡ 0) → merged n f ≡ 0
+unfolding merged
+each-merged f zero h = refl
+each-merged f (suc n) h = ap₂ bitOr (each-merged f n (λ i l. h i (omega arith))) (h n (omega arith))
 
 -- The words of a part are all 0.
 pub merged-zero : (l : List ℕ) → eqb (merged (length l) (λ i. getD l i 0)) 0 ≡ every (λ x. eqb x 0) l

@@ -18,11 +18,11 @@ part-marks-start c = search needs
 part-marks-end : tie.Need-part-marks-end
 part-marks-end c = search needs
 
-slice-aggregate-fill-reaches : tie.Need-slice-aggregate-fill-reaches
-slice-aggregate-fill-reaches c = search needs
+slice-aggregate-member-reaches : tie.Need-slice-aggregate-member-reaches
+slice-aggregate-member-reaches c = search needs
 
-fill-reaches-requires : tie.Need-fill-reaches-requires
-fill-reaches-requires c κs = search needs
+member-reaches-requires : tie.Need-member-reaches-requires
+member-reaches-requires c κs = search needs
 
 slice-aggregate-strays : tie.Need-slice-aggregate-strays
 slice-aggregate-strays c = search needs
@@ -31,10 +31,10 @@ strays-requires : tie.Need-strays-requires
 strays-requires c κs = search needs
 
 returns : tie.Need-returns
-returns c = let s = c .before .before .before .before .before .before .before .before in
+returns c = let s = c .before .before .before .before .before .before .before .before .before in
     let k = s .args .k .now in
-    λ ids n o e f. homes-law ids (s .args .names .now) (marksIn k) n o (subst (λ z. MarksForm z (marksIn k)) (sym e) f) (marks-size k (s .pre .2)) _ (λ h l. c .before .before .before .fill-reaches .ensures h (omega (arith, e)))
-    k (λ i. omega (arith, c .before .before .before .before .before .before .before .shared-slice-known .given i)) (s .args .m) (c .strays .result) (c .strays .ensures)
+    λ ids n o e f. homes-law ids (s .args .names .now) (marksIn k) n o (subst (λ z. MarksForm z (marksIn k)) (sym e) f) (marks-size k (s .pre .3)) _ (c .before .before .before .member-reaches .ensures ids n o e f)
+    k (λ i. omega (arith, c .before .before .before .before .before .before .before .shared-slice-known2 .given i)) (s .args .m) (c .strays .result) (c .strays .ensures)
 
 pub bad-homes-spec : {M : Type 1} → statement M
 bad-homes-spec =
@@ -43,8 +43,8 @@ bad-homes-spec =
     sub-marks
     part-marks-start
     part-marks-end
-    slice-aggregate-fill-reaches
-    fill-reaches-requires
+    slice-aggregate-member-reaches
+    member-reaches-requires
     slice-aggregate-strays
     strays-requires
     returns)
