@@ -8,8 +8,8 @@ use native.Mathlib.Decide.{decLt, ℕ-discrete}
 use native.Mathlib.Numerals.{add-one, unary-clauses}
 use native.Mathlib.Omega.{arith}
 use lib.Dec.{T, eqb, eqb→eq, T-not}
-use lib.ListN.{getD, length, set}
-use lib.Seq.{getD-set-same, getD-set-other}
+use lib.ListN.{getD, length, set, length-set}
+use lib.Seq.{ext-getD, getD-set-same, getD-set-other}
 use Rattle.lists.specs.Basics.{if_then_else_, distinct, table}
 use Rattle.lists.specs.Choice.{choose, passes}
 use Rattle.lists.specs.Members.{filled}
@@ -82,6 +82,14 @@ first-some s i n l = go (decLt 0 (firstIn s (s i) n))
     go : Dec (0 < firstIn s (s i) n) → 0 < firstIn s (s i) n
     go (yes p) = p
     go (no p) = absurd (first-says s (s i) n .none (omega arith) i l refl)
+
+-- a place written with what it has
+pub set-own : (l : List ℕ) (i d : ℕ) → i < length l → set l i (getD l i d) ≡ l
+set-own l i d h = ext-getD d (set l i (getD l i d)) l (length-set l i (getD l i d))
+    (λ j k. elim (ℕ-discrete j i) [
+      | yes e ↦ ap (λ z. getD (set l i (getD l i d)) z d) e ∙ getD-set-same l i (getD l i d) d h ∙ sym (ap (λ z. getD l z d) e)
+      | no e ↦ getD-set-other l i j (getD l i d) d e
+    ])
 
 -- A slot for each group, from 1 to 512, and each digit.
 abbrev pub slotCount : ℕ

@@ -7,7 +7,7 @@ use protocol::form::CARDS_AT;
 ghost use mathlib.Core.Path.{_≡_};
 ghost use Prim.Native.Nat.{ℕ, _+_, _≤_, _<_};
 ghost use lib.Dec.{eqb};
-ghost use lib.ListN.{length, getD};
+ghost use lib.ListN.{length, getD, set};
 ghost use Rattle.lists.specs.Basics.{if_then_else_, table, distinct};
 ghost use Rattle.lists.specs.Merge.{merged};
 ghost use Rattle.protocol.specs.Cards.{mostCards, bookSize, cardStart};
@@ -28,13 +28,17 @@ fn copy_machines(k: &[u32], m: usize, side: &mut [u32])
     }
 }
 
-// The first card that came to a slot, or this one where none did; each as one more than its place.
-fn first_come(seen: u16, i: usize) -> u16
-    requires { ⌜ i < mostCards ⌝ }
-    ensures { λ r. ⌜ r ≡ (if eqb seen 0 then i + 1 else seen) ⌝ }
+// The first card that came to a slot, or card i where none did; each as one more than its place. Nothing is written to a slot that is taken: where
+// all cards come to the same one, each would have to wait for the word that the card before it wrote.
+fn first_come(slots: &mut [u16], slot: usize, i: usize) -> u16
+    requires { ⌜ (slot < length (now slots)) × (i < mostCards) ⌝ }
+    ensures { λ r. ⌜ (r ≡ (if eqb (getD (now (slots .entry)) slot 0) 0 then i + 1 else getD (now (slots .entry)) slot 0)) × (now (slots .exit) ≡ set (now (slots .entry)) slot r) ⌝ }
 {
+    let seen = slots[slot];
     if seen == 0 {
-        return (i + 1) as u16;
+        let own = (i + 1) as u16;
+        slots[slot] = own;
+        return own;
     }
     seen
 }
@@ -48,8 +52,7 @@ fn part(rest: &mut [u32], groups: &mut [u32], slots: &mut [u16], m: usize)
     while i < m {
         let left = rest[i];
         let slot = (groups[i] * 16 + left % 16) as usize;
-        let first = first_come(slots[slot], i);
-        slots[slot] = first;
+        let first = first_come(slots, slot, i);
         groups[i] = first as u32;
         rest[i] = left / 16;
         i += 1;

@@ -1,9 +1,9 @@
 -- `part`: after i cards, each has its group, and each slot its first card. Assumes nothing.
 use borrow.Author.Needs.{needs}
-use mathlib.Core.Path.{_≡_, refl}
-use Prim.Native.Nat.{_+_, _*_, _%_, _≤_, _-_}
+use mathlib.Core.Path.{_≡_, refl, sym, subst}
+use Prim.Native.Nat.{_+_, _*_, _/_, _%_, _≤_, _-_}
 use native.Mathlib.Omega.{arith}
-use lib.ListN.{length, getD, length-set}
+use lib.ListN.{length, getD, set, length-set}
 use Rattle.card_checks.specs.Digits.{Parting, parting-none, parting-more, parting-all, slot-below}
 use Rattle.card_checks.proofs.digits.part.Statement.{statement}
 use Rattle.card_checks.proofs.digits.part.Tie as tie
@@ -39,20 +39,11 @@ add-slot c = let l = c .before .before .before .loop in let s = c .before .befor
 cast-slot : tie.Need-cast-slot Inv-loop μ-loop
 cast-slot c = let l = c .before .before .before .loop in let s = c .before .before .before .before .before .before .before in omega (arith, slot-below (s .args .m) (s .args .rest .now) (s .args .groups .now) (l .i) (l .rest) (l .groups) (l .slots) (l .inv .4) (omega arith) (s .pre .5))
 
-mul-first-come : tie.Need-mul-first-come Inv-loop μ-loop
-mul-first-come c = let l = c .before .before .before .loop in let s = c .before .before .before .before .before .before .before in omega (arith, slot-below (s .args .m) (s .args .rest .now) (s .args .groups .now) (l .i) (l .rest) (l .groups) (l .slots) (l .inv .4) (omega arith) (s .pre .5))
-
-slice-read-first-come : tie.Need-slice-read-first-come Inv-loop μ-loop
-slice-read-first-come c = let l = c .before .before .before .before .loop in let s = c .before .before .before .before .before .before .before .before in omega (arith, slot-below (s .args .m) (s .args .rest .now) (s .args .groups .now) (l .i) (l .rest) (l .groups) (l .slots) (l .inv .4) (omega arith) (s .pre .5))
-
 first-come-requires : tie.Need-first-come-requires Inv-loop μ-loop
-first-come-requires c κs = search needs
-
-mul-slots : tie.Need-mul-slots Inv-loop μ-loop
-mul-slots c = let l = c .before .before .before .before .before .loop in let s = c .before .before .before .before .before .before .before .before .before in omega (arith, slot-below (s .args .m) (s .args .rest .now) (s .args .groups .now) (l .i) (l .rest) (l .groups) (l .slots) (l .inv .4) (omega arith) (s .pre .5))
-
-slice-write-slots : tie.Need-slice-write-slots Inv-loop μ-loop
-slice-write-slots c = let l = c .before .before .before .before .before .loop in let s = c .before .before .before .before .before .before .before .before .before in omega (arith, slot-below (s .args .m) (s .args .rest .now) (s .args .groups .now) (l .i) (l .rest) (l .groups) (l .slots) (l .inv .4) (omega arith) (s .pre .5))
+first-come-requires c κs = let l = c .before .before .before .before .loop in
+    let s = c .before .before .before .before .before .before .before .before in
+    let b = slot-below (s .args .m) (s .args .rest .now) (s .args .groups .now) (l .i) (l .rest) (l .groups) (l .slots) (l .inv .4) (omega arith) (s .pre .5) in
+    (omega (arith, b, l .inv .3, s .pre .3), search needs)
 
 cast-groups : tie.Need-cast-groups Inv-loop μ-loop
 cast-groups c = search needs
@@ -76,15 +67,17 @@ loop-less : tie.Need-loop-less Inv-loop μ-loop
 loop-less c = search needs
 
 loop-again : tie.Need-loop-again Inv-loop μ-loop
-loop-again c = let l = c .before .before .before .before .before .loop in
-    let s = c .before .before .before .before .before .before .before .before .before in
+loop-again c = let l = c .before .before .before .before .before .before .before .loop in
+    let s = c .before .before .before .before .before .before .before .before .before .before .before in
+    let f = c .before .before .first-come in
     let b = slot-below (s .args .m) (s .args .rest .now) (s .args .groups .now) (l .i) (l .rest) (l .groups) (l .slots) (l .inv .4) (omega arith) (s .pre .5) in (
       search needs,
       simp length-set (l .inv .1),
       simp length-set (l .inv .2),
-      simp length-set (l .inv .3),
-      parting-more (s .args .m) (s .args .rest .now) (s .args .groups .now) (l .i) (getD (l .groups) (l .i) 0 * 16 + getD (l .rest) (l .i) 0 % 16) (c .first-come .result) (l .rest) (l .groups) (l .slots) (l .inv .4)
-          (omega arith) (omega arith) (omega arith) (omega (arith, l .inv .3, s .pre .3)) b refl (c .first-come .ensures),
+      search needs,
+      subst (λ z. Parting (s .args .m) (l .i + 1) (s .args .rest .now) (s .args .groups .now) (set (l .rest) (l .i) (getD (l .rest) (l .i) 0 / 16)) (set (l .groups) (l .i) (f .result)) z) (sym (f .ensures .1))
+          (parting-more (s .args .m) (s .args .rest .now) (s .args .groups .now) (l .i) (getD (l .groups) (l .i) 0 * 16 + getD (l .rest) (l .i) 0 % 16) (f .result) (l .rest) (l .groups) (l .slots) (l .inv .4)
+          (omega arith) (omega arith) (omega arith) (omega (arith, l .inv .3, s .pre .3)) b refl (f .ensures .0)),
     )
 
 same-length : tie.Need-same-length Inv-loop μ-loop
@@ -115,11 +108,7 @@ part-spec =
     mul-slot-2
     add-slot
     cast-slot
-    mul-first-come
-    slice-read-first-come
     first-come-requires
-    mul-slots
-    slice-write-slots
     cast-groups
     mul-groups
     slice-write-groups
