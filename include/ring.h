@@ -12,8 +12,8 @@
  * not be NULL, even where its length is 0: give any valid address. No pointer is kept after the call. The calls allocate nothing, hold no
  * state of their own, and may run on many threads at once, each on its own buffers.
  *
- * A call needs less than 10 KiB of stack. Link with libring_c.a (`rt staticlib ring_c`, x86-64), which needs memcpy, memmove and memset and
- * nothing else.
+ * A call needs less than 10 KiB of stack, one with cards less than 40 KiB. Link with libring_c.a (`rt staticlib ring_c`, x86-64), which needs
+ * memcpy, memmove and memset and nothing else.
  */
 #ifndef RING_H
 #define RING_H
@@ -42,7 +42,7 @@ extern "C" {
 enum ring_code {
     RING_OK = 0,
     RING_RECORD_SHORT = 1,    /* `words` has fewer than RING_RECORD_BYTES bytes, or `cards` fewer than RING_CARDS_BYTES */
-    RING_NOT_WELL_FORMED = 2, /* record or cards are damaged: the calls that found a ring, steps and offers leave none that is refused so */
+    RING_NOT_WELL_FORMED = 2, /* the record is damaged, or the cards beside it: calls of this header alone, as it asks for them, do not lead here */
     RING_NO_OPERATION = 3,    /* the operation is not one of enum ring_operation */
     RING_NO_HUB = 4,          /* a hub number is not below the number of hubs */
     RING_NOT_IN_RING = 5,     /* the hub is outside or still joining */
@@ -139,17 +139,17 @@ uint32_t ring_step(uint8_t *words, size_t words_len, uint32_t operation, uint32_
 uint32_t ring_owner(const uint8_t *words, size_t words_len, uint32_t number, uint8_t *out, size_t out_len);
 
 /*
- * Price cards. A card slice is 2,113 words, as bytes like the record: the number of cards; for each of 64 hubs 1 where it is in the ring and 0 where
- * it is not; and four words a card, machine, revision, price in cents, and the hub that keeps it. It is made together with its ring, by one of the
- * next two calls. From then on lend it to every step on that record (ring_step_cards, never ring_step), and write it by steps and offers alone:
- * then each card is always with the hub that owns its machine's number.
+ * Price cards. A card slice is 2,113 words, as bytes like the record: the number of cards; for each of 64 hubs 1 from its RING_ENTERED (or its
+ * founding) to its RING_GONE, and 0 otherwise; and four words a card, machine, revision, price in cents, and the hub that keeps it. It is made
+ * together with its ring, by one of the next two calls. From then on lend it to every step on that record (ring_step_cards, never ring_step), and
+ * let steps and offers alone write it: then each card is always with the hub that owns its machine's number.
  *
  * Of both slices the record is looked at first: too short, the record, then the cards (RING_RECORD_SHORT); damaged, the record, then the cards
  * beside it (RING_NOT_WELL_FORMED). A refused call has written to neither.
  */
 
 /*
- * ring_fresh_cards - as ring_fresh, and with the ring its card slice: no card, and the founder alone in the ring.
+ * ring_fresh_cards - as ring_fresh, and with the ring its card slice: no card yet, and 1 for the founder alone.
  *
  *   cards, cards_len  the card slice, written over; length in bytes
  *
@@ -167,8 +167,8 @@ uint32_t ring_fresh_by_cards(uint8_t *words, size_t words_len, uint8_t *cards, s
  *
  *   cards, cards_len  the card slice that was made with this record, changed by an answer RING_ENTERED or RING_GONE; length in bytes
  *
- * Returns RING_OK, RING_OUTPUT_SHORT, or a refusal from 1 to 12. A step that would take the only hub out of the cards is RING_NOT_WELL_FORMED,
- * asked last; with the slice that was made with the record this does not happen.
+ * Returns RING_OK, RING_OUTPUT_SHORT, or a refusal from 1 to 12. A step that would leave no hub with 1 in the cards is RING_NOT_WELL_FORMED,
+ * asked last; it does not happen with the slice that was made with the record and lent to every step on it.
  */
 uint32_t ring_step_cards(uint8_t *words, size_t words_len, uint8_t *cards, size_t cards_len, uint32_t operation, uint32_t x, uint32_t y,
                          uint8_t *out, size_t out_len);

@@ -27,7 +27,7 @@ predOf w h = getD w (rowStart h + 4) 0 % 64
 abbrev pub gapBack : List ℕ → List ℕ → ℕ → ℕ
 gapBack w names h = gap (getD names (predOf w h) 0) (getD names h 0)
 
--- 1 where a member's pred is none.
+-- 1 where the pred of a member is no member.
 abbrev pub strange : List ℕ → List ℕ → ℕ → ℕ
 strange w marks h = if eqb (getD marks h 0) 1 then (if eqb (getD marks (predOf w h) 0) 1 then 0 else 1) else 0
 

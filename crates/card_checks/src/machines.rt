@@ -1,4 +1,4 @@
-// No machine has two cards. Buckets find it out in one look a card, and give up where many machines crowd into one; then their digits decide.
+// No machine has two cards. Buckets find it out in a few looks a card, and give up where many machines crowd into one; then their digits decide.
 use crate::buckets::by_buckets;
 use crate::digits::by_digits;
 ghost use mathlib.Core.Path.{_≡_};

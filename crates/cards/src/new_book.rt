@@ -1,4 +1,4 @@
-// A card slice made with a fresh ring: no card, and the founder as its only member.
+// The slice that comes with a ring just founded: all words 0 but the mark of the founder.
 use founding::founding_node;
 use protocol::Founder;
 use protocol::Outcome;

@@ -1,22 +1,21 @@
 -- 2026-04, stated: what is claimed of every list of steps with cards and offers, from every card slice that was made with its ring. Its proof is
 -- `custody` in Theorem.antt. It cites the definitions of `protocol`, those of demand 3 (Demand3.antt), and these few about lists of both calls.
--- (From `lists`: All, of each element.)
+-- (From `lists`: Mem, being an element; All, of each element.)
 use mathlib.Core.Path.{_≡_}
-use mathlib.Core.Bool.{true}
 use mathlib.Core.List.{List, [], _∷_, map}
 use Prim.Native.Nat.{ℕ, _+_, _<_}
 use lib.Dec.{eqb}
 use lib.ListN.{getD}
-use Rattle.lists.specs.Basics.{if_then_else_, All}
+use Rattle.lists.specs.Basics.{if_then_else_, Mem, All}
 use Rattle.protocol.specs.declared.Card.{Card}
+use Rattle.protocol.specs.declared.Message.{Message}
 use Rattle.protocol.specs.declared.Answer.the-variants.{Quiet}
 use Rattle.protocol.specs.declared.Outcome.{Outcome}
 use Rattle.protocol.specs.declared.Outcome.the-variants.{Refused, Answered}
 use Rattle.protocol.specs.Record.{mostNodes, read}
-use Rattle.protocol.specs.WellFormed.{identifiers}
 use Rattle.protocol.specs.Membership.{foundingMembers, mark, node, ownerAmong}
 use Rattle.protocol.specs.Calls.{freshByCall}
-use Rattle.protocol.specs.Cards.{cardStart, cardsIn, cardFrom, readBook, bookOk, CardsCalled, stepCards, offerCall, freshByCards}
+use Rattle.protocol.specs.Cards.{cardStart, cardsIn, cardFrom, readBook, CardsCalled, onBoth, stepCards, offerCall, freshByCards}
 use Rattle.atomicity.specs.Demand3.{Call, Word, ThreeWords, Event, present, history, recordAfter, membersAfter, Claims}
 
 -- An offered card: its hub is not passed.
@@ -43,7 +42,7 @@ pub record CardEvent : Type 0 where
   pub call : CardCall
   pub outcome : Outcome
 
--- Each gets both slices as the call before left them, after a refusal too.
+-- A call gets what the one before it left in both slices, refused or not.
 unfoldable pub cardHistory : List ℕ → List ℕ → List CardCall → List CardEvent
 cardHistory w k [] = []
 cardHistory w k (c ∷ calls) = record { call = c; outcome = made w k c .outcome } ∷ cardHistory (made w k c .slice) (made w k c .cards) calls
@@ -109,22 +108,31 @@ pub record Lent (ids : List ℕ) (founder : ℕ) (events : List CardEvent) (w k 
 -- What is claimed of a ring of these identifiers that this hub founded, with these events behind it, the record w and the card slice k.
 -- `bare` is the record that fresh without cards writes, and `alone` the steps alone.
 pub record CardClaims (ids : List ℕ) (founder : ℕ) (bare : List ℕ) (alone : List Call) (events : List CardEvent) (w k : List ℕ) : Type 0 where
-  -- (a) The member words are the ledger.
+  -- (a) The word of each hub says whether it is in the ledger.
   pub members : (hub : ℕ) → hub < mostNodes → getD k (1 + hub) 0 ≡ mark (ledger founder events) hub
-  -- (b) Each card is with the ledger's owner of its machine.
+  -- (b) Who keeps a card is, by the ledger, the owner of its machine.
   pub held : (j : ℕ) → j < cardsIn k
       → ownerAmong ids (ledger founder events) (cardFrom k (cardStart j) .machine) ≡ node (cardFrom k (cardStart j) .hub)
-  -- (c) Cards are neither lost nor doubled: they are what the accepted offers alone give, in order.
+  -- (c) The cards are those that the accepted offers alone give, in order: none is lost, and none is there twice.
   pub prices : map priced (readBook k .cards) ≡ pricesAfter [] events
-  -- (d) The slice is well formed beside its record, so the next call is not refused by the cards' 2; among the rest, machines differ.
-  pub formed : bookOk (identifiers (read w)) k ≡ true
+  -- (d) Both slices pass the questions that every call with cards begins with: they are long enough, and well formed. So machines differ.
+  pub ready : (rest : CardsCalled) → onBoth w k rest ≡ rest
   -- (e) Cards change nothing of the steps: outcomes and record are those without cards. So the last question refuses none of them.
   pub outcomes : stepEvents events ≡ history present bare alone
   pub same : w ≡ recordAfter present bare alone
-  -- (f) Demand 3's claims hold of them.
+  -- (f) Demand 3's claims hold of them; and of its last one also this: a next deliver with cards is refused no more than one without.
   pub claims : Claims present ids founder (stepEvents events) w
+  pub next : (m : Message) → Mem m (read w .messages) → (number : ℕ) → stepCards w k 3 (m .from) (m .to) .outcome ≡ Refused number → ⊥
 
+-- Of every slice that was made with its ring.
 unfoldable pub Custody : Type 0
 Custody =
     (ids : List ℕ) (founder : ℕ) (events : List CardEvent) (w k : List ℕ) (r : Lent ids founder events w k)
     → CardClaims ids founder (freshByCall (r .slice) ids founder .slice) (steps (r .calls)) events w k
+
+-- (c) of any two slices, also of those that no ring made, whatever is in them: steps and refused offers leave the prices as they are, and an
+-- accepted offer puts in its own.
+unfoldable pub Conserved : Type 0
+Conserved =
+    (w k : List ℕ) (calls : List CardCall)
+    → map priced (readBook (cardsAfter w k calls) .cards) ≡ pricesAfter (map priced (readBook k .cards)) (cardHistory w k calls)

@@ -12,11 +12,12 @@ use Rattle.lists.specs.Choice.{granted, tested}
 use Rattle.lists.specs.Members.{mem-at, by-row}
 use Rattle.lists.specs.Tests.{Distinct, T-true}
 use Rattle.protocol.specs.declared.Card.{Card}
+use Rattle.protocol.specs.declared.Message.{Message}
 use Rattle.protocol.specs.declared.Answer.the-variants.{Quiet, Found, Entered, Gone, JoinTurnedAway, LeaveTurnedAway, Joined, Left}
 use Rattle.protocol.specs.declared.Outcome.{Outcome}
 use Rattle.protocol.specs.declared.Outcome.the-variants.{Refused, Answered}
 use Rattle.protocol.specs.Names.{RECORD-SHORT}
-use Rattle.protocol.specs.Record.{mostNodes, State, outside, read}
+use Rattle.protocol.specs.Record.{mostNodes, State, count, outside, read}
 use Rattle.protocol.specs.WellFormed.{identifiers, wellFormed}
 use Rattle.protocol.specs.Step as meaning
 use Rattle.protocol.specs.Step.{Result, refused}
@@ -25,7 +26,7 @@ use Rattle.protocol.specs.Calls.{Called, long, onRecord, written, turnedDown, s
 use Rattle.protocol.specs.Membership.{foundingMembers, mark, struckOff, takenIn, afterOutcome, node, ownerAmong}
 use Rattle.protocol.specs.Cards.{bookSize, cardStart, Book, bookWords, cardsIn, marksIn, cardFrom, readBook, marked, home, bookOk, newBook, moved, Offered, declined, kept, noCard, offered, CardsCalled, unchanged, bothLong, onBoth, putBook, remarked, following, afterCall, stepCards, offerWritten, offerCall, withNewBook, freshByCards}
 use Rattle.layout.specs.Words.{read-words}
-use Rattle.layout.specs.Form.{well-formed-words, long-words}
+use Rattle.layout.specs.Form.{MessageForm, well-formed-words, long-words}
 use Rattle.layout.specs.Owners.{owner-same, has-owner}
 use Rattle.cardlayout.specs.Marks.{home-is, Marked, mem-marked, marked-mem, member-some}
 use Rattle.cardlayout.specs.Books.{Fits, drop-book, long-book, count-book, card-read, marks-read, read-book}
@@ -36,7 +37,8 @@ use Rattle.atomicity.specs.Engines.{refused-answered, present-laws}
 use Rattle.atomicity.specs.Theorem.{members-last, Course, members-below, runs, reached-course, demand-3}
 use Rattle.custody.specs.Lasting.{Some, some-kept}
 use Rattle.custody.specs.Custody.{Offer, CardCall, step, offer, InWords, made, CardEvent, cardHistory, wordsAfter, cardsAfter, steps, stepEvent, stepEvents, put, pricesThen, pricesAfter, priced, Lent, CardClaims, Custody}
-use Rattle.custody.specs.Kept.{Ledger, Kept, to-marked, from-marked, book-form, moves, Fair, offer-fair}
+use Rattle.custody.specs.Offers.{Fair, offer-fair}
+use Rattle.custody.specs.Kept.{Ledger, Kept, to-marked, from-marked, book-form, moves, takes}
 
 -- A step without cards leaves the slice where it is refused.
 refused-same : (w : List ℕ) (c : Call) (number : ℕ) → called present w c .outcome ≡ Refused number → called present w c .slice ≡ w
@@ -190,6 +192,17 @@ module _ (ids : List ℕ) (founder : ℕ) (rest : List ℕ) where
         (follows c (called present w c .slice) (called present w c .outcome) (refused-same w c)
         (runs ids founder present present-laws Some (some-kept ids) events w (S .course) (c ∷ []) (t, tt)))
 
+    -- a delivery on a link where something waits
+    delivers : Claims present ids founder events w → (m : Message) → Mem m (read w .messages) → (number : ℕ) → stepCards w k 3 (m .from) (m .to) .outcome ≡ Refused number → ⊥
+    delivers claims m i number e =
+        claims .next m i number (sym (stepped (record { operation = 3; x = m .from; y = m .to }) words .outcome) ∙ e)
+      where
+        f : MessageForm (count (S .course .state)) (S .course .state .asked) m
+        f = S .course .fits .messages m (subst (λ z. Mem m (z .messages)) (ap read (S .course .is) ∙ read-words (S .course .state) (S .course .tail) (S .course .fits .few)) i)
+
+        words : ThreeWords (record { operation = 3; x = m .from; y = m .to })
+        words = record { operation = omega arith; x = omega (arith, f .from, S .course .fits .few); y = omega (arith, f .to, S .course .fits .few) }
+
     -- one offer
     record Taken (o : Offer) (z : CardsCalled) : Type 0 where
       slice : z .slice ≡ w
@@ -202,19 +215,19 @@ module _ (ids : List ℕ) (founder : ℕ) (rest : List ℕ) where
         (subst (λ z. Taken o (offerWritten w k (offered (z .cards) (card (identifiers (read w)) (marksIn k))))) (sym reads)
         (subst (λ z. Taken o (offerWritten w k (offered (b .cards) (card z (marksIn k))))) (sym (names-kept (S .course)))
         (subst (λ z. Taken o (offerWritten w k (offered (b .cards) (card ids z)))) (sym marks-are)
-        (go (offered (b .cards) (card ids (b .marks))) (offer-fair K (card ids (b .marks)) lm refl)))))
+        (go (offered (b .cards) (card ids (b .marks))) (offer-fair (b .cards) (card ids (b .marks)) (K .fits .cards))))))
       where
         card : List ℕ → List ℕ → Card
         card names marks = record { machine = o .machine; revision = o .revision; price = o .price; hub = home names (marked marks) (o .machine) }
 
-        go : (x : Offered) → Fair K (card ids (b .marks)) lm refl x → Taken o (offerWritten w k x)
+        go : (x : Offered) → Fair (b .cards) (card ids (b .marks)) x → Taken o (offerWritten w k x)
         go (declined number) f = record { slice = refl; stage = S }
         go (kept l) f = record {
           slice = refl;
           stage = record {
             course = S .course;
             book = record { marks = b .marks; cards = l };
-            holds = f;
+            holds = takes K (card ids (b .marks)) lm refl l f;
             is = ap (λ z. bookWords (record { marks = z; cards = l }) ++ drop bookSize k) marks-are
                 ∙ ap (λ z. bookWords (record { marks = b .marks; cards = l }) ++ z) drops;
           };
@@ -345,18 +358,11 @@ custody ids founder events w k r = record {
   members = member-words ids founder rest S;
   held = held ids founder rest S;
   prices = plain ids founder rest S;
-  formed = T-true _ (formed ids founder rest S);
+  ready = passes ids founder rest S;
   outcomes = outcomes;
   same = same;
-  claims = demand-3 ids founder (stepEvents events) w (from-fresh (record {
-    slice = r .slice;
-    calls = steps (r .calls);
-    identifiers = r .small;
-    commands = steps-words (r .calls) (r .commands);
-    accepted = M .founded;
-    happened = outcomes;
-    is = same;
-  }));
+  claims = claims;
+  next = delivers ids founder rest S claims;
 }
   where
     M : Made (r .slice) (r .book) ids founder
@@ -413,3 +419,14 @@ custody ids founder events w k r = record {
         (subst (λ z. Stage ids founder rest (stepEvents (cardHistory bare k₀ (r .calls))) (pricesAfter [] (cardHistory bare k₀ (r .calls))) z k) (sym is-record)
         (subst (Stage ids founder rest (stepEvents (cardHistory bare k₀ (r .calls))) (pricesAfter [] (cardHistory bare k₀ (r .calls))) (wordsAfter bare k₀ (r .calls))) (sym is-cards)
         (E .stage)))
+
+    claims : Claims present ids founder (stepEvents events) w
+    claims = demand-3 ids founder (stepEvents events) w (from-fresh (record {
+      slice = r .slice;
+      calls = steps (r .calls);
+      identifiers = r .small;
+      commands = steps-words (r .calls) (r .commands);
+      accepted = M .founded;
+      happened = outcomes;
+      is = same;
+    }))

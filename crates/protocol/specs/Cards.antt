@@ -18,7 +18,7 @@ use Rattle.protocol.specs.Fresh.{smallest}
 use Rattle.protocol.specs.Membership.{Owner, nobody, node, ownerAmong}
 use Rattle.protocol.specs.Calls.{long, stepCall, freshByCall}
 
--- The numbers of the form: word 0 is the number of cards, 64 words have a mark for each hub, and four words a card follow.
+-- The numbers of the form: how many cards there are stands first, then 64 marks, one for each hub, then the cards, of four words each.
 abbrev pub mostCards : ℕ
 mostCards = 512
 

@@ -1,4 +1,4 @@
--- Names for document 01's numbers: states, kinds of message, kinds of answer, refusals. The code has the same, with _ for -
+-- Names for the documents' numbers: states, kinds of message, kinds of answer, refusals. The code has the same, with _ for -
 -- (src/: states, kinds, answer_kinds, refusals).
 use Prim.Native.Nat.{ℕ}
 

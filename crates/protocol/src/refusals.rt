@@ -1,4 +1,4 @@
-// The refusals, by document 01's numbers ('Questions before a call, in order'). specs/Names.antt has the same names, with - for _.
+// The refusals, by the documents' numbers (document 01, 'Questions before a call, in order'; from 18 on document 02). specs/Names.antt has the same names, with - for _.
 // Fewer than 1,988 words, or 2,113 for the cards.
 pub const RECORD_SHORT: u32 = 1;
 

@@ -29,7 +29,7 @@ pub const FIRST_CARD: usize = 65;
 const _: () = assert!(FIRST_MEMBER + MAX_NODES == FIRST_CARD);
 const _: () = assert!(FIRST_CARD + CARD_WORDS * MAX_CARDS == CARD_SLICE_WORDS);
 
-/// 'A card is machine number, revision, price in cents and hub.'
+/// A price card, its four words in their order.
 #[derive(Clone, Copy, Debug, PartialEq, Eq)]
 pub struct Card {
     /// The machine whose price it is; no two cards have the same.
@@ -68,8 +68,8 @@ pub struct Cards {
 }
 
 impl Cards {
-    /// 'A new slice, made with a fresh ring, has no card and the founder as
-    /// its only member.'
+    /// What comes with a ring just founded: nothing kept yet, and nobody in
+    /// the ledger but the founder.
     pub fn new(identifiers: &[u32], founder: u32) -> Cards {
         Cards {
             membership: Membership::new(identifiers, founder),
@@ -111,8 +111,8 @@ impl Cards {
         answer.kind == GONE && members.len() == 1 && members.contains(&answer.hub)
     }
 
-    /// Takes in an answer. 'At each entered or gone answer the cards change
-    /// hub, so each card is always with the ledger's owner.'
+    /// Takes in an answer. Where the ledger changes, every card goes to its
+    /// owner by the new one.
     pub fn feed(&mut self, answer: &Answer) {
         self.membership.feed(answer);
         if matches!(answer.kind, ENTERED | GONE) {
@@ -123,8 +123,8 @@ impl Cards {
         }
     }
 
-    /// Takes in an offered card; its hub 'is filled in, not read'. After a
-    /// refusal the cards are as they were.
+    /// Takes in an offered card, and finds its hub. After a refusal the cards
+    /// are as they were.
     pub fn offer(&mut self, machine: u32, revision: u32, price: u32) -> Result<(), u32> {
         self.offer_questions(machine, revision, price)?;
         let hub = self.membership.owner(machine).expect("there is a member");
@@ -142,7 +142,7 @@ impl Cards {
         Ok(())
     }
 
-    /// 22, 23 and 24, 'asked in that order'.
+    /// 22, 23 and 24, in this order.
     fn offer_questions(&self, machine: u32, revision: u32, price: u32) -> Result<(), u32> {
         let kept = self.place(machine).map(|place| self.kept[place]);
         if kept.is_some_and(|kept| revision < kept.revision) {

@@ -51,7 +51,7 @@ impl CardClaims {
         self.judge_hubs(slice)
     }
 
-    /// 'Words 1 to 64 are 1 for each hub in the ledger and 0 for the others.'
+    /// The members' words are the ledger.
     fn judge_members(&self, slice: &[u32]) -> Result<(), String> {
         for (hub, &is_member) in self.ledger.iter().enumerate() {
             let word = slice[MEMBERS + hub];
@@ -62,7 +62,7 @@ impl CardClaims {
         Ok(())
     }
 
-    /// 'Cards are neither lost nor doubled': they are those of the offers alone.
+    /// No card is lost, and none is there twice: they are those of the offers alone.
     fn judge_list(&self, slice: &[u32]) -> Result<(), String> {
         let (count, should) = (slice[0], self.plain.len());
         if count as usize != should {
@@ -77,7 +77,7 @@ impl CardClaims {
         Ok(())
     }
 
-    /// 'Each card is always with the ledger's owner': the first member clockwise from the machine's
+    /// Each card is with its owner by the ledger: the first member clockwise from the machine's
     /// number on.
     fn judge_hubs(&self, slice: &[u32]) -> Result<(), String> {
         let in_ledger = |&&(_, hub): &&(u32, u32)| self.ledger[hub as usize];

@@ -44,8 +44,8 @@ pub fn step_cards(
     Ok(answer)
 }
 
-/// The same on the typed forms. 'One whose only member it would strike off'
-/// is 2, 'asked last'. After a refusal both are as they were.
+/// The same on the typed forms. A step that would leave no member is 2, but
+/// only after all other questions. After a refusal both are as they were.
 pub fn step_typed(
     state: &mut State,
     cards: &mut Cards,
@@ -101,7 +101,7 @@ pub fn read(words: &[u32], cards: &[u32]) -> Result<(State, Cards), u32> {
     Ok((state, cards))
 }
 
-/// 'A card slice too short is 1, asked after the record's 1.'
+/// Question 1, of the record and then of the cards.
 fn long_enough(words: &[u32], cards: &[u32]) -> Result<(), u32> {
     if words.len() < RECORD_WORDS || cards.len() < CARD_SLICE_WORDS {
         return Err(refusal::RECORD_SHORT);

@@ -22,7 +22,7 @@ pub fn well_formed(words: &[u32], identifiers: &[u32]) -> bool {
         && hubs_are_owners(&cards, &Membership::of(identifiers, &members))
 }
 
-/// 'Words 1 to 64 are 0 or 1.'
+/// A hub's word says yes or no.
 fn words_are_0_or_1(words: &[u32]) -> bool {
     words.iter().all(|&word| word == 0 || word == 1)
 }
@@ -33,18 +33,18 @@ fn unused_are_0(words: &[u32]) -> bool {
     words.iter().skip(used).all(|&word| word == 0)
 }
 
-/// 'Its members are at least one and all below n.'
+/// Some hub is a member, and no member is missing from the record.
 fn members_fit(members: &[u32], n: usize) -> bool {
     !members.is_empty() && members.iter().all(|&hub| (hub as usize) < n)
 }
 
-/// 'Its machines differ.'
+/// No machine has two cards.
 fn machines_differ(cards: &[Card]) -> bool {
     let machines: BTreeSet<u32> = cards.iter().map(|card| card.machine).collect();
     machines.len() == cards.len()
 }
 
-/// 'Each card's hub is the owner among its members.'
+/// Each card is where it belongs.
 fn hubs_are_owners(cards: &[Card], membership: &Membership) -> bool {
     let with_owner = |card: &Card| membership.owner(card.machine) == Some(card.hub);
     cards.iter().all(with_owner)
