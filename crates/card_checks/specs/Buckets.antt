@@ -1,18 +1,17 @@
 -- Do the machines differ? Cards are put into buckets by their machine; each card knows the last one before it in its bucket. For every list of
 -- numbers f. Assumes nothing.
 use mathlib.Core.Path.{_≡_, refl, sym, _∙_, ap, subst}
-use mathlib.Core.Logic.{_⊎_, inl, inr, _≢_}
+use mathlib.Core.Logic.{_≢_}
 use mathlib.Core.Bool.{Bool, true, false, not, _&&_}
 use mathlib.Core.List.{List}
 use Prim.Native.Nat.{ℕ, zero, suc, _+_, _-_, _*_, _/_, _%_, _≤_, _<_}
-use native.Mathlib.Decide.{decLe, decLt, ℕ-discrete}
+use native.Mathlib.Decide.{decLe, ℕ-discrete}
 use native.Mathlib.Nat.{mod-lt}
 use native.Mathlib.Numerals.{add-one}
 use native.Mathlib.Omega.{arith}
 use lib.Dec.{T, eqb, eqb→eq, T-not}
 use lib.ListN.{getD, length, set}
-use lib.Seq.{getD-set-same, getD-set-other, ext-getD}
-use borrow.Author.Tests.{eqb-true}
+use lib.Seq.{getD-set-same, getD-set-other}
 use Rattle.lists.specs.Basics.{if_then_else_, Mem, every, distinct, table}
 use Rattle.lists.specs.Choice.{choose}
 use Rattle.lists.specs.Members.{mem-at, place, filled}

@@ -1,17 +1,16 @@
 -- The parts of 'well formed' of a card slice, in the order in which the code asks them. Assumes nothing.
-use mathlib.Core.Path.{_≡_, refl, sym, _∙_, ap, subst}
+use mathlib.Core.Path.{_≡_, refl, sym, _∙_, ap}
 use mathlib.Core.Bool.{Bool, true, false, _&&_}
-use mathlib.Core.List.{List, [], _∷_, _++_, map, map-append}
-use Prim.Native.Nat.{ℕ, zero, suc, _+_, _-_, _*_, _≤_, _<_}
+use mathlib.Core.List.{List, map}
+use Prim.Native.Nat.{ℕ, _-_, _≤_, _<_}
 use native.Mathlib.Omega.{arith}
-use lib.Dec.{T, leb, eqb}
+use lib.Dec.{leb, eqb}
 use lib.ListN.{length, getD, take, drop}
 use borrow.Author.Tests.{le-leb, lt-leb}
 use Rattle.lists.specs.Basics.{table, every, distinct}
 use Rattle.lists.specs.Blocks.{map-table}
 use Rattle.lists.specs.Tests.{and-false, true-T}
-use Rattle.protocol.specs.declared.Card.{Card}
-use Rattle.protocol.specs.Cards.{mostCards, bookSize, cardSize, cardStart, cardsIn, marksIn, cardFrom, readBook, unusedCards, unusedCardWords, marked, home, marksOk, cardsOk, bookOk}
+use Rattle.protocol.specs.Cards.{mostCards, bookSize, cardStart, cardsIn, marksIn, cardFrom, readBook, unusedCards, unusedCardWords, marked, home, marksOk, cardsOk, bookOk}
 use Rattle.cardlayout.specs.Sound.{MarksForm, says-marks}
 
 -- the machines of the cards, as the code reads them

@@ -1,13 +1,13 @@
--- Do the machines differ? Cards are parted into groups by one digit of four bits more in each pass. For every list of numbers f. Assumes nothing.
-use mathlib.Core.Path.{_≡_, refl, sym, _∙_, ap, ap₂, subst}
-use mathlib.Core.Logic.{_⊎_, inl, inr, _≢_}
+-- Do the machines differ? Cards are parted into groups, by one digit of four bits more in each pass. For every list of numbers f. Assumes nothing.
+use mathlib.Core.Path.{_≡_, refl, sym, _∙_, ap, ap₂}
+use mathlib.Core.Logic.{_≢_}
 use mathlib.Core.Bool.{Bool, true, false, _&&_, true≢false}
 use mathlib.Core.List.{List}
 use Prim.Native.Nat.{ℕ, zero, suc, _+_, _-_, _*_, _/_, _%_, _^_, _≤_, _<_}
 use native.Mathlib.Decide.{decLt, ℕ-discrete}
 use native.Mathlib.Numerals.{add-one, unary-clauses}
 use native.Mathlib.Omega.{arith}
-use lib.Dec.{T, eqb, eqb→eq, T-not}
+use lib.Dec.{eqb, eqb→eq, T-not}
 use lib.ListN.{getD, length, set, length-set}
 use lib.Seq.{ext-getD, getD-set-same, getD-set-other}
 use Rattle.lists.specs.Basics.{if_then_else_, distinct, table}
@@ -91,7 +91,7 @@ set-own l i d h = ext-getD d (set l i (getD l i d)) l (length-set l i (getD l i 
       | no e ↦ getD-set-other l i j (getD l i d) d e
     ])
 
--- A slot for each group, from 1 to 512, and each digit.
+-- A slot for each group, from 0 to 512, and each digit.
 abbrev pub slotCount : ℕ
 slotCount = 8208
 
@@ -163,27 +163,11 @@ module _ (m : ℕ) (rest groups : List ℕ) where
   pub parting-all : (i : ℕ) (rest′ groups′ slots : List ℕ) → Parting m i rest groups rest′ groups′ slots → i ≡ m → Parted m rest groups rest′ groups′
   parting-all i rest′ groups′ slots P e = record { groups-are = λ j l. P .groups-are j (omega arith); rest-are = λ j l. P .rest-are j (omega arith) }
 
--- Between the passes: two cards are of one group, with the same digits left, where their machines are the same; `left` digits are left.
-pub record Grouped (f : ℕ → ℕ) (m left : ℕ) (rest groups : List ℕ) : Type 0 where
-  pub same : (i j : ℕ) → i < m → j < m → f i ≡ f j → (getD groups i 0 ≡ getD groups j 0) × (getD rest i 0 ≡ getD rest j 0)
-  pub apart : (i j : ℕ) → i < m → j < m → getD groups i 0 ≡ getD groups j 0 → getD rest i 0 ≡ getD rest j 0 → f i ≡ f j
+-- After a pass a group has the name of its first card, one more than its place.
+pub record Led (m : ℕ) (groups : List ℕ) : Type 0 where
   pub head : (i : ℕ) → i < m → (q : ℕ) × (q < m) × (getD groups i 0 ≡ suc q) × (getD groups q 0 ≡ suc q)
-  pub low : (i : ℕ) → i < m → getD rest i 0 < 16 ^ left
 
--- At first all are one group, that of card 0.
-pub grouped-start : (m : ℕ) (rest groups : List ℕ) → ((i : ℕ) → i < m → getD groups i 0 ≡ 1) → ((i : ℕ) → i < m → getD rest i 0 < 16 ^ 8)
-    → Grouped (λ j. getD rest j 0) m 8 rest groups
-grouped-start m rest groups one small = record {
-  same = λ i j a b e. (one i a ∙ sym (one j b), e);
-  apart = λ i j a b e g. g;
-  head = λ i a. (0, omega arith, one i a, one 0 (omega arith));
-  low = small;
-}
-
-pub group-small : {f : ℕ → ℕ} {m left : ℕ} {rest groups : List ℕ} → Grouped f m left rest groups → (i : ℕ) → i < m → getD groups i 0 ≤ m
-group-small G i l = let q = G .head i l in omega (arith, q .1, q .2)
-
-module _ (f : ℕ → ℕ) (m left : ℕ) (rest groups rest′ groups′ : List ℕ) (G : Grouped f m (suc left) rest groups) (P : Parted m rest groups rest′ groups′) where
+module _ (m : ℕ) (rest groups rest′ groups′ : List ℕ) (P : Parted m rest groups rest′ groups′) where
   abbrev t : ℕ → ℕ
   t = slotOf rest groups
 
@@ -195,25 +179,47 @@ module _ (f : ℕ → ℕ) (m left : ℕ) (rest groups rest′ groups′ : List 
       let r = first-says t (t i) m .at (firstIn t (t i) m - 1) e in
       (firstIn t (t i) m - 1, e, r .0, r .1)
 
-  slots-same : (i j : ℕ) → i < m → j < m → getD groups′ i 0 ≡ getD groups′ j 0 → t i ≡ t j
+  pub parted-led : Led m groups′
+  parted-led = record {
+    head = λ i a. (let x = leader i a in
+        (x .0, x .2, P .groups-are i a ∙ x .1, P .groups-are (x .0) (x .2) ∙ ap (λ z. firstIn t z m) (x .3) ∙ x .1));
+  }
+
+  pub slots-same : (i j : ℕ) → i < m → j < m → getD groups′ i 0 ≡ getD groups′ j 0 → t i ≡ t j
   slots-same i j a b e =
       let x = leader i a in
       let y = leader j b in
       let q : x .0 ≡ y .0 = omega (arith, x .1, y .1, P .groups-are i a, P .groups-are j b) in
       sym (x .3) ∙ ap t q ∙ y .3
 
-  pub grouped-next : Grouped f m left rest′ groups′
-  grouped-next = record {
-    same = λ i j a b e. (let g = G .same i j a b e in (
-      P .groups-are i a ∙ ap (λ z. firstIn t z m) (ap₂ (λ x y. x * 16 + y % 16) (g .0) (g .1)) ∙ sym (P .groups-are j b),
-      P .rest-are i a ∙ ap (λ z. z / 16) (g .1) ∙ sym (P .rest-are j b),
-    ));
-    apart = λ i j a b e g. (let q = slots-same i j a b e in
-        G .apart i j a b (omega (arith, q)) (omega (arith, q, P .rest-are i a, P .rest-are j b)));
-    head = λ i a. (let x = leader i a in
-        (x .0, x .2, P .groups-are i a ∙ x .1, P .groups-are (x .0) (x .2) ∙ ap (λ z. firstIn t z m) (x .3) ∙ x .1));
-    low = λ i a. (let l = simp unary-clauses at (G .low i a) in omega (arith, P .rest-are i a, l));
-  }
+pub led-few : (m : ℕ) (groups : List ℕ) → Led m groups → (i : ℕ) → i < m → getD groups i 0 ≤ m
+led-few m groups L i l = let q = L .head i l in omega (arith, q .1, q .2)
+
+-- Between the passes: two cards are of one group, with the same digits left, where their machines are the same; `left` digits are left.
+pub record Grouped (f : ℕ → ℕ) (m left : ℕ) (rest groups : List ℕ) : Type 0 where
+  pub same : (i j : ℕ) → i < m → j < m → f i ≡ f j → (getD groups i 0 ≡ getD groups j 0) × (getD rest i 0 ≡ getD rest j 0)
+  pub apart : (i j : ℕ) → i < m → j < m → getD groups i 0 ≡ getD groups j 0 → getD rest i 0 ≡ getD rest j 0 → f i ≡ f j
+  pub low : (i : ℕ) → i < m → getD rest i 0 < 16 ^ left
+
+-- At first a group is the cards whose machines have the same lowest nine bits, and these are its name.
+pub grouped-start : (f : ℕ → ℕ) (m : ℕ) (rest groups : List ℕ) → ((i : ℕ) → i < m → getD groups i 0 ≡ f i % 512) → ((i : ℕ) → i < m → getD rest i 0 ≡ f i / 512)
+    → ((i : ℕ) → i < m → f i < 4294967296) → Grouped f m 6 rest groups
+grouped-start f m rest groups names rests small = record {
+  same = λ i j a b e. (names i a ∙ ap (λ z. z % 512) e ∙ sym (names j b), rests i a ∙ ap (λ z. z / 512) e ∙ sym (rests j b));
+  apart = λ i j a b e g. omega (arith, names i a, names j b, rests i a, rests j b);
+  low = λ i a. omega (arith, rests i a, small i a);
+}
+
+pub grouped-next : (f : ℕ → ℕ) (m left : ℕ) (rest groups rest′ groups′ : List ℕ) → Grouped f m (suc left) rest groups → Parted m rest groups rest′ groups′ → Grouped f m left rest′ groups′
+grouped-next f m left rest groups rest′ groups′ G P = record {
+  same = λ i j a b e. (let g = G .same i j a b e in (
+    P .groups-are i a ∙ ap (λ z. firstIn (slotOf rest groups) z m) (ap₂ (λ x y. x * 16 + y % 16) (g .0) (g .1)) ∙ sym (P .groups-are j b),
+    P .rest-are i a ∙ ap (λ z. z / 16) (g .1) ∙ sym (P .rest-are j b),
+  ));
+  apart = λ i j a b e g. (let q = slots-same m rest groups rest′ groups′ P i j a b e in
+      G .apart i j a b (omega (arith, q)) (omega (arith, q, P .rest-are i a, P .rest-are j b)));
+  low = λ i a. (let l = simp unary-clauses at (G .low i a) in omega (arith, P .rest-are i a, l));
+}
 
 -- After the last pass each card leads its group just where the machines differ.
 differ-all : (f : ℕ → ℕ) (n : ℕ) → ((i j : ℕ) → j < i → i < n → f j ≢ f i) → distinct (table n f) ≡ true
@@ -249,15 +255,15 @@ grouped-yes f m left rest groups G e =
     differ-all f m (λ i j k l q. (let g = G .same j i (omega arith) l q in omega (arith, g .0, h j (omega arith), h i l)))
 
 -- And where they differ, each does after the last pass.
-pub grouped-no : (f : ℕ → ℕ) (m : ℕ) (rest groups : List ℕ) → Grouped f m 0 rest groups → following m groups ≢ 0 → distinct (table m f) ≡ false
-grouped-no f m rest groups G ne = go (distinct (table m f)) refl
+pub grouped-no : (f : ℕ → ℕ) (m : ℕ) (rest groups : List ℕ) → Grouped f m 0 rest groups → Led m groups → following m groups ≢ 0 → distinct (table m f) ≡ false
+grouped-no f m rest groups G L ne = go (distinct (table m f)) refl
   where
     alike : (i j : ℕ) → i < m → j < m → getD groups i 0 ≡ getD groups j 0 → f i ≡ f j
     alike i j a b e = let x : getD rest i 0 < 1 = G .low i a in let y : getD rest j 0 < 1 = G .low j b in G .apart i j a b e (omega arith)
 
     -- the leader of a card's group is another card with its machine
     twice : (i : ℕ) → i < m → getD groups i 0 ≢ i + 1 → distinct (table m f) ≡ false
-    twice i l d = let h = G .head i l in
+    twice i l d = let h = L .head i l in
         elim (decLt (h .0) i) [
           | yes k ↦ meets f m i (h .0) k l (alike (h .0) i (h .1) l (h .3 ∙ sym (h .2)))
           | no k ↦ meets f m (h .0) i (omega (arith, h .2)) (h .1) (alike i (h .0) l (h .1) (h .2 ∙ sym (h .3)))

@@ -1,30 +1,28 @@
 -- Who owns a machine, as the code finds it: by tables of identifiers and of each hub's reach. Assumes nothing.
 use mathlib.Core.Path.{_≡_, refl, sym, _∙_, ap, subst}
 use mathlib.Core.Logic.{_⊎_, inl, inr, _≢_}
-use mathlib.Core.Bool.{Bool, true, false, not, _&&_}
-use mathlib.Core.List.{List, [], _∷_, map}
-use Prim.Native.Nat.{ℕ, zero, suc, _+_, _-_, _*_, _%_, _≤_, _<_}
-use native.Mathlib.Decide.{decLe, decLt, ℕ-discrete}
+use mathlib.Core.Bool.{Bool, true, false, _&&_}
+use mathlib.Core.List.{List}
+use Prim.Native.Nat.{ℕ, zero, suc, _+_, _%_, _≤_, _<_}
+use native.Mathlib.Decide.{decLt}
 use native.Mathlib.Nat.{mod-eq-of-lt}
-use native.Mathlib.Numerals.{add-one}
 use native.Mathlib.Omega.{arith}
-use lib.Dec.{T, leb, ltb, eqb, leb→le, le→leb, ltb→lt, nleb→lt, eqb→eq, T-not}
+use lib.Dec.{leb, ltb, eqb, leb→le, le→leb, eqb→eq}
 use lib.ListN.{length, getD, replicate, length-map, List·getD-map}
 use Rattle.clockwise.specs.Clockwise.{dist}
 use Rattle.clockwise.specs.Laws.{dist-lt}
-use Rattle.lists.specs.Basics.{if_then_else_, Mem, first, every, table}
+use Rattle.lists.specs.Basics.{if_then_else_, first, every, table}
 use Rattle.lists.specs.Choice.{choose, passes}
 use Rattle.lists.specs.Members.{distinct-apart}
 use Rattle.lists.specs.Search.{Located, Missed, search-ends}
-use Rattle.lists.specs.Tests.{Says, says-and, says-as, says-same, says-eq, says-lt, says-le, →eqb, and-left, and-right, and-both, T-true, true-T, Distinct}
+use Rattle.lists.specs.Tests.{says-and, says-as, says-same, says-eq, says-lt, says-le, →eqb, and-left, and-right, and-both, T-true, true-T}
 use Rattle.lists.specs.Merge.{merged, merged-test, failure-test}
-use Rattle.protocol.specs.declared.Card.{Card}
-use Rattle.protocol.specs.Record.{round, mostNodes, rowStart, countIn, outside, row, read, State, count}
+use Rattle.protocol.specs.Record.{round, mostNodes, rowStart, countIn, outside, row, read}
 use Rattle.protocol.specs.WellFormed.{identifiers}
 use Rattle.protocol.specs.Cards.{cardStart, cardFrom, marked, home}
 use Rattle.layout.specs.Words.{row-of-read, row-beyond, count-of-read}
 use Rattle.layout.specs.Form.{Form}
-use Rattle.layout.specs.Owners.{Owns, Names, owner-is}
+use Rattle.layout.specs.Owners.{Names, owner-is}
 use Rattle.cardlayout.specs.Marks.{home-is, Marked, mem-marked, marked-mem}
 use Rattle.cardlayout.specs.Reach.{top, gap, least, least-says, gapTo, reach, reach-owns, owns-reach, owner-of}
 use Rattle.cardlayout.specs.Sound.{MarksForm}

@@ -1,10 +1,10 @@
 -- What the tests of the marks say. Assumes nothing.
-use mathlib.Core.Path.{_≡_, refl, sym, _∙_, ap, subst}
+use mathlib.Core.Path.{_≡_, refl, sym, _∙_, ap}
 use mathlib.Core.Logic.{_⊎_, inl, inr, _≢_}
 use mathlib.Core.Bool.{Bool, true, false, not, _&&_}
 use mathlib.Core.List.{List, [], _∷_}
-use Prim.Native.Nat.{ℕ, zero, suc, _+_, _-_, _≤_, _<_}
-use native.Mathlib.Decide.{decLe, decLt, ℕ-discrete}
+use Prim.Native.Nat.{ℕ, suc, _+_, _-_, _≤_, _<_}
+use native.Mathlib.Decide.{decLt, ℕ-discrete}
 use native.Mathlib.Omega.{arith}
 use lib.Dec.{T, leb, ltb, eqb, eqb→eq, T-not}
 use lib.ListN.{length, getD, set, take, drop, length-drop, length-take, length-set}
@@ -14,7 +14,7 @@ use Rattle.lists.specs.Blocks.{table-of}
 use Rattle.lists.specs.Choice.{choose}
 use Rattle.lists.specs.Members.{mem-at, place}
 use Rattle.lists.specs.Merge.{merged, merged-test, failure-test}
-use Rattle.lists.specs.Tests.{Says, says-and, says-as, says-lt, says-le, says-eq, says-not, says-same, says-every, T-true, true-T, →eqb}
+use Rattle.lists.specs.Tests.{says-and, says-as, says-lt, says-le, says-eq, says-not, says-same, says-every, T-true, true-T, →eqb}
 use Rattle.protocol.specs.Record.{mostNodes}
 use Rattle.protocol.specs.Cards.{bookSize, marksIn, marked, marksOk}
 use Rattle.cardlayout.specs.Marks.{Marked, mem-marked, marked-mem, some-member, member-some}

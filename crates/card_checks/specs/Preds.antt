@@ -1,11 +1,11 @@
 -- Reaches out of the record: the gaps back to the preds of the members, where these are members too and go round the circle just once. Assumes nothing.
-use mathlib.Core.Path.{_≡_, refl, sym, _∙_, ap, ap₂, subst}
+use mathlib.Core.Path.{_≡_, refl, sym, _∙_, ap₂, subst}
 use mathlib.Core.List.{List}
 use Prim.Native.Nat.{ℕ, _+_, _%_, _≤_, _<_}
 use native.Mathlib.Decide.{decLt}
 use native.Mathlib.Nat.{mod-lt}
 use native.Mathlib.Omega.{arith}
-use lib.Dec.{T, eqb, eqb→eq, T-not}
+use lib.Dec.{eqb, eqb→eq}
 use lib.ListN.{length, getD, List·getD-eq-default}
 use Rattle.lists.specs.Basics.{if_then_else_}
 use Rattle.lists.specs.Choice.{choose, passes}
@@ -15,7 +15,7 @@ use Rattle.protocol.specs.Record.{round, mostNodes, rowStart}
 use Rattle.layout.specs.Owners.{Names}
 use Rattle.cardlayout.specs.Marks.{Marked}
 use Rattle.cardlayout.specs.Reach.{gap, reach}
-use Rattle.cardlayout.specs.Circle.{total, total-cut, total-most, once-round, gap-enough}
+use Rattle.cardlayout.specs.Circle.{total, total-cut, once-round, gap-enough}
 use Rattle.cardlayout.specs.Sound.{MarksForm}
 use Rattle.card_checks.specs.Homes.{Copied, reach-same}
 

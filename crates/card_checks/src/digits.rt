@@ -1,11 +1,11 @@
-// Do the machines of the cards differ? By their digits of four bits, from the lowest: cards whose machines have the same digits so far are a group, and
-// each of at most eight passes parts the groups by one digit more. Linear in the cards, whatever their machines are. `rest` has what is left of each machine,
-// `groups` one more than the first card of each card's group.
+// Do the machines of the cards differ? By their digits, from the lowest: cards whose machines have the same digits so far are a group, and each pass
+// parts the groups by four bits more. The first groups are by nine bits, so six passes are the most. Linear in the cards, whatever their machines are.
+// `rest` has what is left of each machine, `groups` the name of each card's group: those nine bits, and after a pass one more than its first card.
 use lists::failure;
 use protocol::form::CARD_WORDS;
 use protocol::form::CARDS_AT;
 ghost use mathlib.Core.Path.{_≡_};
-ghost use Prim.Native.Nat.{ℕ, _+_, _≤_, _<_};
+ghost use Prim.Native.Nat.{ℕ, _+_, _/_, _%_, _≤_, _<_};
 ghost use lib.Dec.{eqb};
 ghost use lib.ListN.{length, getD, set};
 ghost use Rattle.lists.specs.Basics.{if_then_else_, table, distinct};
@@ -16,14 +16,16 @@ ghost use Rattle.card_checks.specs.Digits.{slotCount, Parted, Grouped};
 // A slot for each group and digit.
 const SLOTS: usize = 8208;
 
-// The machines of the first m cards, side by side.
-fn copy_machines(k: &[u32], m: usize, side: &mut [u32])
-    requires { ⌜ (m ≤ mostCards) × (bookSize ≤ length (now k)) × (mostCards ≤ length (now side)) ⌝ }
-    ensures { λ _. ⌜ ((j : ℕ) → j < m → getD (now (side .exit)) j 0 ≡ getD (now (k .entry)) (cardStart j) 0) ⌝ }
+// The lowest nine bits of the first m cards' machines, and what is left of them.
+fn cut_machines(k: &[u32], m: usize, rest: &mut [u32], groups: &mut [u32])
+    requires { ⌜ (m ≤ mostCards) × (bookSize ≤ length (now k)) × (mostCards ≤ length (now rest)) × (mostCards ≤ length (now groups)) ⌝ }
+    ensures { λ _. ⌜ ((j : ℕ) → j < m → getD (now (groups .exit)) j 0 ≡ getD (now (k .entry)) (cardStart j) 0 % 512) × ((j : ℕ) → j < m → getD (now (rest .exit)) j 0 ≡ getD (now (k .entry)) (cardStart j) 0 / 512) ⌝ }
 {
     let mut j = 0;
     while j < m {
-        side[j] = k[CARDS_AT + CARD_WORDS * j];
+        let machine = k[CARDS_AT + CARD_WORDS * j];
+        groups[j] = machine % 512;
+        rest[j] = machine / 512;
         j += 1;
     }
 }
@@ -81,12 +83,12 @@ fn followers(groups: &[u32], m: usize) -> u32
     bad
 }
 
-// Passes, until each card is the first of its group, but eight at most: then the cards of a group have the same machine.
+// Passes, until each card is the first of its group, but six at most: then the cards of a group have the same machine.
 fn part_all(rest: &mut [u32], groups: &mut [u32], m: usize) -> bool
-    requires { ⌜ (m ≤ mostCards) × (m ≤ length (now rest)) × (m ≤ length (now groups)) × Grouped (λ j. getD (now rest) j 0) m 8 (now rest) (now groups) ⌝ }
-    ensures { λ r. ⌜ r ≡ distinct (table m (λ j. getD (now (rest .entry)) j 0)) ⌝ }
+    requires { ⌜ (m ≤ mostCards) × (m ≤ length (now rest)) × (m ≤ length (now groups)) × ((j : ℕ) → j < m → getD (now groups) j 0 ≤ mostCards) ⌝ }
+    ensures { λ r. ⌜ ((f : ℕ → ℕ) → Grouped f m 6 (now (rest .entry)) (now (groups .entry)) → r ≡ distinct (table m f)) ⌝ }
 {
-    let mut left: u32 = 8;
+    let mut left: u32 = 6;
     while 0 < left {
         part_once(rest, groups, m);
         if followers(groups, m) == 0 {
@@ -102,7 +104,7 @@ pub(crate) fn by_digits(k: &[u32], m: usize) -> bool
     ensures { λ r. ⌜ r ≡ distinct (table m (λ j. getD (now (k .entry)) (cardStart j) 0)) ⌝ }
 {
     let mut rest = [0u32; 512];
-    copy_machines(k, m, &mut rest);
-    let mut groups = [1u32; 512];
+    let mut groups = [0u32; 512];
+    cut_machines(k, m, &mut rest, &mut groups);
     part_all(&mut rest, &mut groups, m)
 }

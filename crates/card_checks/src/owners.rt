@@ -5,7 +5,6 @@ use lists::failure;
 use protocol::form::ROW_WORDS;
 use protocol::form::ROWS_AT;
 ghost use mathlib.Core.Path.{_≡_};
-ghost use mathlib.Core.Bool.{_&&_};
 ghost use Prim.Native.Nat.{ℕ, _+_, _≤_, _<_};
 ghost use lib.Dec.{leb};
 ghost use lib.ListN.{length, getD};
@@ -15,8 +14,8 @@ ghost use Rattle.protocol.specs.Record.{mostNodes, recordSize, rowStart, read};
 ghost use Rattle.protocol.specs.WellFormed.{identifiers};
 ghost use Rattle.protocol.specs.Cards.{mostCards, bookSize, cardStart};
 ghost use Rattle.layout.specs.Form.{Valid};
-ghost use Rattle.cardlayout.specs.Reach.{gap as gapSpec, gapTo, reach as reachSpec};
-ghost use Rattle.card_checks.specs.Homes.{Copied, atHome, farTo, closest as closestSpec, isClose, nearest as nearestSpec};
+ghost use Rattle.cardlayout.specs.Reach.{gap as gapSpec, reach as reachSpec};
+ghost use Rattle.card_checks.specs.Homes.{Copied, atHome, closest as closestSpec, nearest as nearestSpec};
 
 const TOP: u32 = 4294967295;
 

@@ -1,13 +1,12 @@
 -- An offer in the words' terms: where the kept card stands, and what each outcome leaves. Assumes nothing.
-use mathlib.Core.Path.{_≡_, refl, sym, _∙_, ap, subst}
-use mathlib.Core.Bool.{Bool, true, false}
+use mathlib.Core.Path.{_≡_, sym, _∙_, ap}
 use mathlib.Core.List.{List, [], _∷_, _++_}
-use Prim.Native.Nat.{ℕ, zero, suc, _+_, _≤_, _<_}
+use Prim.Native.Nat.{ℕ, _+_, _≤_, _<_}
 use native.Mathlib.Omega.{arith}
-use lib.Dec.{leb, ltb, eqb}
-use lib.ListN.{length, getD, set, drop, replicate, replicate-append-replicate, length-replicate}
+use lib.Dec.{ltb, eqb}
+use lib.ListN.{length, getD, set, drop}
 use borrow.Author.Tests.{lt-ltb, le-ltb, eq-eqb, ne-eqb}
-use Rattle.lists.specs.Basics.{table, if_then_else_, require, first}
+use Rattle.lists.specs.Basics.{if_then_else_, require, first}
 use Rattle.lists.specs.Blocks.{getD-table}
 use Rattle.lists.specs.Choice.{on-yes, on-no}
 use Rattle.lists.specs.Search.{first-cong}
@@ -15,9 +14,8 @@ use Rattle.lists.specs.Splice.{splice}
 use Rattle.protocol.specs.declared.Card.{Card}
 use Rattle.protocol.specs.declared.Answer.the-variants.{Quiet}
 use Rattle.protocol.specs.declared.Outcome.the-variants.{Answered}
-use Rattle.protocol.specs.Record.{mostNodes}
-use Rattle.protocol.specs.Cards.{mostCards, bookSize, cardStart, Book, cardWords, bookWords, cardsIn, marksIn, cardFrom, readBook, noCard, newBook, place, Offered, declined, kept, renewed, offered, CardsCalled, unchanged, putBook, offerWritten}
-use Rattle.cardlayout.specs.Books.{Fits, Neat, read-fits, book-read, count-of-book, put-card-is, push-card-is, mark-is, withMark}
+use Rattle.protocol.specs.Cards.{mostCards, bookSize, cardStart, Book, cardWords, bookWords, cardsIn, marksIn, cardFrom, readBook, noCard, place, Offered, declined, kept, renewed, offered, CardsCalled, unchanged, putBook, offerWritten}
+use Rattle.cardlayout.specs.Books.{Neat, read-fits, book-read, count-of-book, put-card-is, push-card-is}
 
 -- the card at a place
 pub card-of-read : (k : List ℕ) (j : ℕ) → j < cardsIn k → getD (readBook k .cards) j noCard ≡ cardFrom k (cardStart j)

@@ -1,17 +1,17 @@
 -- Words and book: what is written is read, what is read is written, and what the edits of the words do to the book. Assumes nothing.
 use mathlib.Core.Path.{_≡_, refl, ap, sym, _∙_}
 use mathlib.Core.List.{List, [], _∷_, _++_, append-assoc, append-nil}
-use Prim.Native.Nat.{ℕ, suc, zero, _+_, _-_, _*_, _≤_, _<_}
+use Prim.Native.Nat.{ℕ, suc, _+_, _-_, _*_, _≤_, _<_}
 use native.Mathlib.Numerals.{add-one}
 use native.Mathlib.Omega.{arith}
 use lib.ListN.{length, take, drop, getD, set, replicate, length-append, length-replicate, length-take, length-drop, length-set, take-append-drop}
-use lib.Seq.{getD-append-add, getD-append-seam, drop-at, take-at, take-length, drop-drop, drop-cons, set-append-left, set-at, set-split, split-at, length-take-le, append-snoc}
+use lib.Seq.{getD-append-add, getD-append-seam, drop-at, take-at, take-length, drop-drop, drop-cons, set-append-left, set-at}
 use Rattle.lists.specs.Basics.{table, flat, Mem}
 use Rattle.lists.specs.Blocks.{length-table, table-of, flat-append, flat-split, flat-set, length-flat, length-front}
 use Rattle.lists.specs.Splice.{splice, splice-at, drop-pad}
 use Rattle.protocol.specs.declared.Card.{Card}
 use Rattle.protocol.specs.Record.{mostNodes}
-use Rattle.protocol.specs.Cards.{mostCards, bookSize, cardSize, cardStart, Book, cardWords, unusedCardWords, bookWords, cardsIn, marksIn, cardFrom, readBook, unusedCards, noCard, putBook}
+use Rattle.protocol.specs.Cards.{mostCards, bookSize, cardSize, cardStart, Book, cardWords, unusedCardWords, bookWords, cardsIn, marksIn, cardFrom, readBook, unusedCards, noCard}
 use Rattle.layout.specs.Words.{zeros, flat-read, part-at}
 
 pub card-size : (c : Card) → length (cardWords c) ≡ cardSize

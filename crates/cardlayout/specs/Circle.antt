@@ -1,7 +1,7 @@
 -- The members' numbers go round the circle just once. So where gaps that are none too small add up to one circle, each of them is the member's reach.
 -- Assumes nothing.
 use mathlib.Core.Path.{_≡_, refl, sym, _∙_, ap, subst}
-use mathlib.Core.Logic.{_⊎_, inl, inr, _≢_}
+use mathlib.Core.Logic.{_⊎_, inl, inr}
 use mathlib.Core.Bool.{Bool, true, false, _&&_}
 use mathlib.Core.List.{List}
 use Prim.Native.Nat.{ℕ, zero, suc, _+_, _*_, _≤_, _<_}
@@ -15,7 +15,7 @@ use Rattle.clockwise.specs.Clockwise.{dist}
 use Rattle.clockwise.specs.Laws.{dist-law}
 use Rattle.lists.specs.Basics.{if_then_else_}
 use Rattle.lists.specs.Choice.{choose, passes}
-use Rattle.lists.specs.Tests.{→eqb, and-left, and-right, and-both, T-true}
+use Rattle.lists.specs.Tests.{→eqb, and-left, and-right, and-both}
 use Rattle.protocol.specs.Record.{round}
 use Rattle.protocol.specs.Cards.{marked}
 use Rattle.layout.specs.Owners.{Owns, Names}

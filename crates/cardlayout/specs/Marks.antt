@@ -6,7 +6,7 @@ use Prim.Native.Nat.{ℕ, zero, suc, _+_, _≤_, _<_}
 use native.Mathlib.Omega.{arith}
 use lib.Dec.{eqb, eqb→eq, T-not}
 use lib.ListN.{length, getD}
-use Rattle.lists.specs.Basics.{if_then_else_, Mem}
+use Rattle.lists.specs.Basics.{Mem}
 use Rattle.lists.specs.Choice.{choose}
 use Rattle.lists.specs.Tests.{→eqb}
 use Rattle.protocol.specs.Cards.{markedFrom, marked, hubOf, home}

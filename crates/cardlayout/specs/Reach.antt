@@ -2,24 +2,23 @@
 -- after a hub is marked, or its mark is taken away. Assumes nothing.
 use mathlib.Core.Path.{_≡_, refl, sym, _∙_, ap, subst}
 use mathlib.Core.Logic.{_⊎_, inl, inr, _≢_}
-use mathlib.Core.Bool.{Bool, true, false, not}
-use mathlib.Core.List.{List, [], _∷_}
-use Prim.Native.Nat.{ℕ, zero, suc, _+_, _-_, _^_, _≤_, _<_}
+use mathlib.Core.List.{List}
+use Prim.Native.Nat.{ℕ, zero, suc, _+_, _-_, _≤_, _<_}
 use native.Mathlib.Decide.{decLe, ℕ-discrete}
 use native.Mathlib.Numerals.{add-one}
 use native.Mathlib.Omega.{arith}
-use lib.Dec.{T, leb, eqb, leb→le, le→leb, nleb→lt, eqb→eq, T-not}
+use lib.Dec.{leb, eqb, leb→le, nleb→lt, eqb→eq, T-not}
 use lib.ListN.{length, getD, set, length-set}
 use lib.Seq.{getD-set-same, getD-set-other}
 use Rattle.clockwise.specs.Clockwise.{dist}
-use Rattle.clockwise.specs.Laws.{dist-lt, dist-self, dist-pos, tri}
+use Rattle.clockwise.specs.Laws.{dist-lt, dist-pos, tri}
 use Rattle.lists.specs.Basics.{if_then_else_, Mem}
-use Rattle.lists.specs.Choice.{choose, passes}
+use Rattle.lists.specs.Choice.{choose}
 use Rattle.lists.specs.Tests.{→eqb}
 use Rattle.protocol.specs.Record.{round}
 use Rattle.protocol.specs.Cards.{marked, home}
 use Rattle.layout.specs.Owners.{Owns, has-owner, Names, owner-is}
-use Rattle.cardlayout.specs.Marks.{home-is, Marked, mem-marked, marked-mem, some-member}
+use Rattle.cardlayout.specs.Marks.{home-is, Marked, mem-marked, marked-mem}
 
 -- the greatest number of 32 bits
 abbrev pub top : ℕ

@@ -1,19 +1,16 @@
 -- What 'well formed' says of a card slice, in both directions. Assumes nothing.
-use mathlib.Core.Path.{_≡_, refl, sym, _∙_, ap, subst}
+use mathlib.Core.Path.{_≡_}
 use mathlib.Core.Logic.{inl, inr}
-use mathlib.Core.Bool.{Bool, true, _&&_}
-use mathlib.Core.List.{List, [], _∷_, _++_, map}
+use mathlib.Core.List.{List, _++_, map}
 use Prim.Native.Nat.{ℕ, zero, suc, _+_, _≤_, _<_}
-use native.Mathlib.Omega.{arith}
-use lib.Dec.{T, leb, ltb, eqb}
-use lib.ListN.{length, getD, replicate, drop}
-use Rattle.lists.specs.Basics.{Mem, every, distinct}
-use Rattle.lists.specs.Tests.{Says, says-and, says-as, says-le, says-lt, says-eq, says-every, Distinct, says-distinct, true-T}
+use lib.Dec.{T, ltb, eqb}
+use lib.ListN.{length, replicate}
+use Rattle.lists.specs.Basics.{Mem}
+use Rattle.lists.specs.Tests.{Says, says-and, says-as, says-le, says-lt, says-eq, says-every, Distinct, says-distinct}
 use Rattle.protocol.specs.declared.Card.{Card}
-use Rattle.protocol.specs.Record.{mostNodes}
 use Rattle.protocol.specs.Cards.{mostCards, bookSize, Book, bookWords, cardsIn, marksIn, readBook, unusedCards, unusedCardWords, marked, home, marksOk, cardsOk, bookOk}
 use Rattle.cardlayout.specs.Marks.{Marked, mem-marked, marked-mem, some-member, member-some}
-use Rattle.cardlayout.specs.Books.{Fits, Neat, read-fits, padding, count-book, marks-read, read-book, unused-read}
+use Rattle.cardlayout.specs.Books.{Fits, Neat, count-book, marks-read, read-book, unused-read}
 
 -- marks of a ring of n hubs
 pub record MarksForm (n : ℕ) (marks : List ℕ) : Type 0 where

@@ -1,33 +1,24 @@
 -- The questions of the calls in the words' terms, and what the step without cards leaves for the cards. Assumes nothing.
-use mathlib.Core.Path.{_≡_, refl, sym, _∙_, ap, subst}
-use mathlib.Core.Bool.{Bool, true, false}
-use mathlib.Core.List.{List, [], _∷_, _++_}
-use Prim.Native.Nat.{ℕ, zero, suc, _+_, _-_, _≤_, _<_}
+use mathlib.Core.Path.{_≡_, sym, _∙_, ap, subst}
+use mathlib.Core.List.{List, _++_}
+use Prim.Native.Nat.{ℕ, _+_, _-_, _≤_, _<_}
 use native.Mathlib.Decide.{decLt}
 use native.Mathlib.Omega.{arith}
-use lib.Dec.{T, leb}
-use lib.ListN.{length, getD, set, take, drop, length-append, length-drop, length-take, take-append-drop, List·getD-append}
+use lib.ListN.{length, getD, take, drop, length-append, length-drop, take-append-drop, List·getD-append}
 use lib.Seq.{drop-at, ext-getD, getD-take, getD-drop, getD-append-add, length-take-le}
-use borrow.Author.Tests.{le-leb, lt-leb}
-use Rattle.lists.specs.Basics.{require}
-use Rattle.lists.specs.Choice.{on-yes, on-no}
-use Rattle.lists.specs.Tests.{true-T}
 use Rattle.protocol.specs.declared.Answer.{Answer}
 use Rattle.protocol.specs.declared.Outcome.{Outcome}
 use Rattle.protocol.specs.declared.Outcome.the-variants.{Refused, Answered}
-use Rattle.protocol.specs.Names.{NOT-WELL-FORMED, RECORD-SHORT}
-use Rattle.protocol.specs.Record.{round, mostNodes, recordSize, State, count, countIn, read, words}
-use Rattle.protocol.specs.WellFormed.{wellFormed, identifiers}
+use Rattle.protocol.specs.Record.{recordSize, count, read, words}
+use Rattle.protocol.specs.WellFormed.{identifiers}
 use Rattle.protocol.specs.Step.{Result, refused, step}
 use Rattle.protocol.specs.Step.{accepted as went}
-use Rattle.protocol.specs.Calls.{long, Called, written, turnedDown, stepCall}
-use Rattle.protocol.specs.Cards.{bookSize, bookOk, CardsCalled, unchanged, bothLong, onBoth, afterCall}
+use Rattle.protocol.specs.Calls.{long, written, turnedDown, stepCall}
+use Rattle.protocol.specs.Cards.{CardsCalled, afterCall}
 use Rattle.layout.specs.Words.{count-of-read}
 use Rattle.layout.specs.Form.{Valid, valid-form}
-use Rattle.layout.specs.Questions.{long-yes, long-no, record-rest}
-use Rattle.cardlayout.specs.Sound.{neat, form-of-book}
-use Rattle.card_checks.specs.Homes.{Copied, names-of, ids-size}
-use Rattle.card_checks.specs.Ready.{Ready}
+use Rattle.layout.specs.Questions.{record-rest}
+use Rattle.card_checks.specs.Homes.{ids-size}
 use Rattle.cards.specs.Movers.{Bound, Bounded, step-bounded}
 
 -- What a step writes keeps the later words, since it keeps the slice's length.

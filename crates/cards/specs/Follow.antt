@@ -1,27 +1,25 @@
 -- What the code leaves when a hub is marked, and when its mark is taken away. Assumes nothing.
-use mathlib.Core.Path.{_≡_, refl, sym, _∙_, ap, subst}
-use mathlib.Core.Logic.{_⊎_, inl, inr, _≢_}
-use mathlib.Core.List.{List, [], _∷_, _++_, map}
-use Prim.Native.Nat.{ℕ, zero, suc, _+_, _≤_, _<_}
+use mathlib.Core.Path.{_≡_, sym, _∙_, ap, subst}
+use mathlib.Core.List.{List, _++_, map}
+use Prim.Native.Nat.{ℕ, _+_, _≤_, _<_}
 use native.Mathlib.Decide.{ℕ-discrete}
 use native.Mathlib.Numerals.{one-add}
 use native.Mathlib.Omega.{arith}
-use lib.ListN.{length, getD, set, drop, replicate, length-set}
+use lib.ListN.{length, getD, set, drop, length-set}
 use lib.Seq.{getD-set-same, getD-set-other}
-use Rattle.lists.specs.Basics.{Mem, table}
+use Rattle.lists.specs.Basics.{Mem}
 use Rattle.lists.specs.Members.{mem-at, place}
 use Rattle.lists.specs.Blocks.{getD-table}
 use Rattle.protocol.specs.declared.Card.{Card}
 use Rattle.protocol.specs.Record.{round, mostNodes}
-use Rattle.protocol.specs.Cards.{mostCards, bookSize, cardStart, Book, bookWords, cardsIn, marksIn, cardFrom, readBook, unusedCardWords, marked, home, rehoused, moved, noCard, putBook}
-use Rattle.layout.specs.Owners.{Names}
+use Rattle.protocol.specs.Cards.{bookSize, cardStart, Book, bookWords, cardsIn, marksIn, cardFrom, readBook, unusedCardWords, marked, home, moved, noCard, putBook}
 use Rattle.cardlayout.specs.Marks.{Marked}
 use Rattle.cardlayout.specs.Reach.{reach, below-off}
 use Rattle.cardlayout.specs.Books.{Fits, Neat, withMark, read-fits, book-read, read-book, mark-is, marks-read, drop-book, long-book, count-book, unused-read, count-of-book}
-use Rattle.cardlayout.specs.Sound.{MarksForm, BookForm, zero-padding}
+use Rattle.cardlayout.specs.Sound.{MarksForm, zero-padding}
 use Rattle.card_checks.specs.Ready.{Ready}
-use Rattle.card_checks.specs.Marks.{marks-size, mark-at}
-use Rattle.card_checks.specs.Homes.{Copied, reach-same, nearest, nearest-home}
+use Rattle.card_checks.specs.Marks.{mark-at}
+use Rattle.card_checks.specs.Homes.{reach-same, nearest, nearest-home}
 use Rattle.cards.specs.Moves.{handed, entered-cards, left-cards, stay-cards}
 
 -- the words of a book are neat

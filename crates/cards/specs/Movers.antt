@@ -1,15 +1,13 @@
 -- The hub of an entered or gone answer is one of the record's. For every well-formed state and command. Assumes nothing.
-use mathlib.Core.Path.{_≡_, refl, sym, _∙_, ap, subst}
-use mathlib.Core.Logic.{_≢_}
+use mathlib.Core.Path.{_≡_, sym, subst}
 use mathlib.Core.Bool.{Bool, _&&_}
 use Prim.Native.Nat.{ℕ, _<_, _≤_}
 use native.Mathlib.Omega.{arith}
 use lib.Dec.{T, ltb, eqb, eqb→eq, ltb→lt}
 use lib.ListN.{length}
-use Rattle.lists.specs.Basics.{if_then_else_, Mem}
+use Rattle.lists.specs.Basics.{if_then_else_}
 use Rattle.lists.specs.Choice.{choose, tested}
 use Rattle.lists.specs.Members.{mem-at}
-use Rattle.lists.specs.Tests.{and-left, and-right}
 use Rattle.protocol.specs.declared.Row.{Row}
 use Rattle.protocol.specs.declared.Message.{Message}
 use Rattle.protocol.specs.declared.Answer.{Answer}

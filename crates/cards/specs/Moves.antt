@@ -1,25 +1,23 @@
 -- Cards handed over to another hub, one after the other; and what that does to a book when a hub enters or leaves. Assumes nothing.
-use mathlib.Core.Path.{_≡_, refl, sym, _∙_, ap, subst}
-use mathlib.Core.Logic.{_⊎_, inl, inr, _≢_}
-use mathlib.Core.Bool.{Bool, true, false, not}
+use mathlib.Core.Path.{_≡_, refl, sym, _∙_, ap}
+use mathlib.Core.Logic.{inl, inr}
 use mathlib.Core.List.{List, [], _∷_, _++_, map}
-use Prim.Native.Nat.{ℕ, zero, suc, _+_, _≤_, _<_}
+use Prim.Native.Nat.{ℕ, suc, _+_, _<_}
 use native.Mathlib.Numerals.{add-one}
 use native.Mathlib.Omega.{arith}
-use lib.Dec.{T, leb, eqb}
-use lib.ListN.{length, getD, set, take, drop, length-append, length-map, length-set}
-use lib.Seq.{length-take-le, getD-append-add, getD-append-seam, set-at, drop-cons, take-suc, append-snoc, take-length, drop-length, set-getD}
+use lib.Dec.{leb}
+use lib.ListN.{length, getD, set, take, drop, length-append, length-map}
+use lib.Seq.{length-take-le, set-at, drop-cons, take-suc, append-snoc, take-length, drop-length, set-getD}
 use Rattle.clockwise.specs.Clockwise.{dist}
 use Rattle.lists.specs.Basics.{if_then_else_, Mem}
-use Rattle.lists.specs.Choice.{choose}
 use Rattle.protocol.specs.declared.Card.{Card}
-use Rattle.protocol.specs.Record.{round, mostNodes}
-use Rattle.protocol.specs.Cards.{bookSize, cardStart, Book, bookWords, cardsIn, marksIn, cardFrom, readBook, marked, home, rehoused, moved, noCard, putBook}
+use Rattle.protocol.specs.Record.{round}
+use Rattle.protocol.specs.Cards.{cardStart, Book, bookWords, cardFrom, marked, home, rehoused, moved, noCard}
 use Rattle.layout.specs.Owners.{Names}
 use Rattle.cardlayout.specs.Marks.{Marked}
 use Rattle.cardlayout.specs.Reach.{reach, home-on, home-off}
-use Rattle.cardlayout.specs.Books.{Fits, withHub, withMark, Neat, read-fits, book-read, read-book, put-hub-is, mark-is, count-book, marks-read, card-read, drop-book}
-use Rattle.cardlayout.specs.Sound.{MarksForm, BookForm}
+use Rattle.cardlayout.specs.Books.{Fits, withHub, put-hub-is, card-read}
+use Rattle.cardlayout.specs.Sound.{BookForm}
 
 -- a card within reach of an identifier gets the hub
 unfoldable pub handed : ℕ → ℕ → ℕ → Card → Card

@@ -1,20 +1,18 @@
 -- The fresh call with cards, in the words' terms. Assumes nothing.
-use mathlib.Core.Path.{_≡_, refl, sym, _∙_, ap, subst}
+use mathlib.Core.Path.{_≡_, refl, sym, _∙_, ap}
 use mathlib.Core.List.{List, [], _∷_, _++_}
 use Prim.Native.Nat.{ℕ, _+_, _≤_, _<_}
 use native.Mathlib.Numerals.{one-add}
 use native.Mathlib.Omega.{arith}
 use lib.ListN.{length, set, drop, replicate, replicate-append-replicate, length-replicate}
-use borrow.Author.Tests.{le-leb, lt-leb}
-use Rattle.lists.specs.Choice.{on-yes, on-no}
 use Rattle.protocol.specs.declared.Answer.{Answer}
 use Rattle.protocol.specs.declared.Outcome.{Outcome}
 use Rattle.protocol.specs.declared.Outcome.the-variants.{Refused, Answered}
 use Rattle.protocol.specs.Names.{RECORD-SHORT}
 use Rattle.protocol.specs.Record.{mostNodes, recordSize}
-use Rattle.protocol.specs.Calls.{Called, written, freshByCall}
-use Rattle.protocol.specs.Cards.{bookSize, Book, bookWords, CardsCalled, unchanged, newBook, bothLong, putBook, withNewBook, freshByCards}
-use Rattle.layout.specs.Questions.{long-yes, long-no, fresh-cases}
+use Rattle.protocol.specs.Calls.{written, freshByCall}
+use Rattle.protocol.specs.Cards.{bookSize, Book, bookWords, unchanged, newBook, putBook, withNewBook, freshByCards}
+use Rattle.layout.specs.Questions.{fresh-cases}
 use Rattle.cardlayout.specs.Books.{mark-is}
 use Rattle.card_checks.specs.Ready.{long-1, long-cards-1, long-rest}
 use Rattle.cards.specs.Asked.{refused-answered}

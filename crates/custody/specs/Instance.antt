@@ -1,6 +1,6 @@
 -- The premises of the theorem can be met: a ring of the identifiers 200 and 100 with its cards, in any two slices that are long enough, whichever of
 -- the two hubs is named as the founder; and where none is named, hub 1 is it. Assumes nothing.
-use mathlib.Core.Path.{_≡_, refl, _∙_, ap}
+use mathlib.Core.Path.{_≡_, refl, ap}
 use mathlib.Core.List.{List}
 use Prim.Native.Nat.{ℕ, _≤_}
 use native.Mathlib.Omega.{arith}

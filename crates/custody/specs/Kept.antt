@@ -6,7 +6,7 @@ use Prim.Native.Nat.{ℕ, _≤_, _<_}
 use native.Mathlib.Omega.{arith}
 use lib.Dec.{eqb}
 use lib.ListN.{length, getD, length-map}
-use Rattle.lists.specs.Basics.{if_then_else_, Mem}
+use Rattle.lists.specs.Basics.{Mem}
 use Rattle.lists.specs.Choice.{choose}
 use Rattle.lists.specs.Members.{mem-map, place}
 use Rattle.lists.specs.Tests.{Distinct}

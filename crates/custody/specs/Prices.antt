@@ -1,22 +1,21 @@
 -- Steps and refused offers leave the prices of the cards, and an accepted offer puts in its own: of any two slices, whatever is in them. Assumes nothing.
-use mathlib.Core.Path.{_≡_, refl, sym, _∙_, ap}
+use mathlib.Core.Path.{_≡_, refl, _∙_, ap}
 use mathlib.Core.List.{List, [], _∷_, map}
-use Prim.Native.Nat.{ℕ, _≤_}
+use Prim.Native.Nat.{ℕ}
 use native.Mathlib.Omega.{arith}
-use lib.Dec.{T, leb→le}
+use lib.Dec.{leb→le}
 use lib.ListN.{length, set, drop, length-set, length-map}
 use Rattle.lists.specs.Choice.{tested}
-use Rattle.protocol.specs.declared.Card.{Card}
 use Rattle.protocol.specs.declared.Answer.the-variants.{Quiet, Found, Entered, Gone, JoinTurnedAway, LeaveTurnedAway, Joined, Left}
 use Rattle.protocol.specs.declared.Outcome.{Outcome}
 use Rattle.protocol.specs.declared.Outcome.the-variants.{Refused, Answered}
-use Rattle.protocol.specs.Record.{mostNodes, read}
+use Rattle.protocol.specs.Record.{read}
 use Rattle.protocol.specs.WellFormed.{identifiers}
 use Rattle.protocol.specs.Calls.{stepCall}
-use Rattle.protocol.specs.Cards.{bookSize, Book, marksIn, readBook, marked, home, bookOk, rehoused, moved, Offered, declined, kept, offered, CardsCalled, bothLong, onBoth, putBook, following, afterCall, stepCards, offerWritten, offerCall}
+use Rattle.protocol.specs.Cards.{bookSize, Book, marksIn, readBook, marked, rehoused, moved, Offered, declined, kept, CardsCalled, bothLong, onBoth, putBook, following, afterCall, stepCards, offerWritten, offerCall}
 use Rattle.cardlayout.specs.Books.{Fits, Neat, read-fits, read-book}
 use Rattle.cardlayout.specs.Sound.{neat}
-use Rattle.custody.specs.Custody.{Offer, CardCall, step, offer, made, CardEvent, cardHistory, cardsAfter, put, pricesThen, pricesAfter, priced, Conserved}
+use Rattle.custody.specs.Custody.{Offer, CardCall, step, offer, made, cardHistory, cardsAfter, pricesThen, pricesAfter, priced, Conserved}
 use Rattle.custody.specs.Offers.{Fair, offer-fair}
 use Rattle.custody.specs.Kept.{map-after}
 

@@ -2,7 +2,7 @@
 use mathlib.Core.Path.{_≡_, refl, sym, _∙_, ap, subst}
 use mathlib.Core.Bool.{Bool, true, false}
 use mathlib.Core.List.{List, [], _∷_, _++_, map, append-nil, append-assoc}
-use Prim.Native.Nat.{ℕ, _+_, _≤_, _<_}
+use Prim.Native.Nat.{ℕ, _+_, _<_}
 use native.Mathlib.Omega.{arith}
 use lib.Dec.{T, leb, le→leb}
 use lib.ListN.{length, getD, set, drop, replicate, length-set, length-map, length-replicate, getD-replicate, List·getD-map}
@@ -10,7 +10,7 @@ use lib.Seq.{ext-getD, getD-set-same, getD-set-other, getD-take, getD-drop}
 use Rattle.lists.specs.Basics.{if_then_else_, require, Mem, All}
 use Rattle.lists.specs.Choice.{granted, tested}
 use Rattle.lists.specs.Members.{mem-at, by-row}
-use Rattle.lists.specs.Tests.{Distinct, T-true}
+use Rattle.lists.specs.Tests.{Distinct}
 use Rattle.protocol.specs.declared.Card.{Card}
 use Rattle.protocol.specs.declared.Message.{Message}
 use Rattle.protocol.specs.declared.Answer.the-variants.{Quiet, Found, Entered, Gone, JoinTurnedAway, LeaveTurnedAway, Joined, Left}
@@ -22,21 +22,21 @@ use Rattle.protocol.specs.WellFormed.{identifiers, wellFormed}
 use Rattle.protocol.specs.Step as meaning
 use Rattle.protocol.specs.Step.{Result, refused}
 use Rattle.protocol.specs.Step.{accepted as went}
-use Rattle.protocol.specs.Calls.{Called, long, onRecord, written, turnedDown, stepCall, freshByCall}
+use Rattle.protocol.specs.Calls.{Called, long, onRecord, written, stepCall, freshByCall}
 use Rattle.protocol.specs.Membership.{foundingMembers, mark, struckOff, takenIn, afterOutcome, node, ownerAmong}
 use Rattle.protocol.specs.Cards.{bookSize, cardStart, Book, bookWords, cardsIn, marksIn, cardFrom, readBook, marked, home, bookOk, newBook, moved, Offered, declined, kept, noCard, offered, CardsCalled, unchanged, bothLong, onBoth, putBook, remarked, following, afterCall, stepCards, offerWritten, offerCall, withNewBook, freshByCards}
 use Rattle.layout.specs.Words.{read-words}
 use Rattle.layout.specs.Form.{MessageForm, well-formed-words, long-words}
 use Rattle.layout.specs.Owners.{owner-same, has-owner}
-use Rattle.cardlayout.specs.Marks.{home-is, Marked, mem-marked, marked-mem, member-some}
-use Rattle.cardlayout.specs.Books.{Fits, drop-book, long-book, count-book, card-read, marks-read, read-book}
+use Rattle.cardlayout.specs.Marks.{home-is, mem-marked, marked-mem, member-some}
+use Rattle.cardlayout.specs.Books.{drop-book, long-book, count-book, card-read, marks-read, read-book}
 use Rattle.cardlayout.specs.Sound.{book-well-formed}
 use Rattle.atomicity.specs.Members.{mark-head, mark-tail, struck-same, struck-other, takenIn-same, takenIn-other, mem-marked as mem-mark, marked as mark-mem}
-use Rattle.atomicity.specs.Demand3.{Call, Word, ThreeWords, present, called, Event, history, recordAfter, membersAfter, Reached, from-fresh, Claims, Demand3}
+use Rattle.atomicity.specs.Demand3.{Call, Word, ThreeWords, present, called, Event, history, recordAfter, membersAfter, from-fresh, Claims, Demand3}
 use Rattle.atomicity.specs.Engines.{refused-answered, present-laws}
 use Rattle.atomicity.specs.Theorem.{members-last, Course, members-below, runs, reached-course, demand-3}
 use Rattle.custody.specs.Lasting.{Some, some-kept}
-use Rattle.custody.specs.Custody.{Offer, CardCall, step, offer, InWords, made, CardEvent, cardHistory, wordsAfter, cardsAfter, steps, stepEvent, stepEvents, put, pricesThen, pricesAfter, priced, Lent, CardClaims, Custody}
+use Rattle.custody.specs.Custody.{Offer, CardCall, step, offer, InWords, made, CardEvent, cardHistory, wordsAfter, cardsAfter, steps, stepEvents, pricesThen, pricesAfter, priced, Custody}
 use Rattle.custody.specs.Offers.{Fair, offer-fair}
 use Rattle.custody.specs.Kept.{Ledger, Kept, to-marked, from-marked, book-form, moves, takes}
 

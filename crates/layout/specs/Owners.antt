@@ -9,7 +9,7 @@ use lib.Dec.{leb, leb→le, nleb→lt}
 use lib.ListN.{length, getD}
 use Rattle.clockwise.specs.Clockwise.{dist}
 use Rattle.clockwise.specs.Laws.{dist-inj}
-use Rattle.lists.specs.Basics.{if_then_else_, Mem}
+use Rattle.lists.specs.Basics.{Mem}
 use Rattle.lists.specs.Choice.{choose}
 use Rattle.protocol.specs.Record.{round}
 use Rattle.protocol.specs.Membership.{node, nearer, ownerAmong}

@@ -1,9 +1,9 @@
 -- What each call for C gives, question by question. Assumes nothing.
 use mathlib.Core.Path.{_≡_, refl, ap, sym, _∙_}
-use mathlib.Core.List.{List, [], _∷_, _++_, append-nil}
+use mathlib.Core.List.{List, [], _++_, append-nil}
 use Prim.Native.Nat.{ℕ, _*_, _/_, _<_, _≤_}
 use native.Mathlib.Omega.{arith}
-use lib.ListN.{length, drop, length-drop, length-set, length-map, drop-of-length-le}
+use lib.ListN.{length, drop, length-set, length-map, drop-of-length-le}
 use lib.Seq.{drop-at}
 use borrow.Author.Tests.{le-leb, lt-leb}
 use Rattle.lists.specs.Choice.{on-yes, on-no}

@@ -1,7 +1,7 @@
 -- `all_apart`: the first i cards are in their buckets, and their machines differ. Assumes nothing.
 use borrow.Author.Needs.{needs}
 use mathlib.Core.Path.{_≡_, refl, sym, _∙_, ap}
-use mathlib.Core.Bool.{true, false, _&&_}
+use mathlib.Core.Bool.{true, _&&_}
 use Prim.Native.Nat.{ℕ, _+_, _≤_, _-_}
 use native.Mathlib.Omega.{arith}
 use lib.ListN.{length, getD, length-set}
@@ -9,7 +9,7 @@ use Rattle.lists.specs.Basics.{distinct, table}
 use Rattle.lists.specs.Tests.{and-false}
 use Rattle.lists.specs.Merge.{distinct-none}
 use Rattle.protocol.specs.Cards.{cardStart}
-use Rattle.card_checks.specs.Buckets.{unmet, distinct-more, distinct-fails, Filed, filed-none, filed-start, filed-more, Verdict}
+use Rattle.card_checks.specs.Buckets.{unmet, distinct-more, distinct-fails, Filed, filed-none, filed-start, filed-more}
 use Rattle.card_checks.proofs.buckets.all_apart.Statement.{statement}
 use Rattle.card_checks.proofs.buckets.all_apart.Tie as tie
 

@@ -1,11 +1,10 @@
 -- `apart`: a walk back along a bucket, until it ends, meets the machine, or is given up. Assumes nothing.
 use borrow.Author.Needs.{needs}
-use mathlib.Core.Path.{_≡_, sym, ap}
 use Prim.Native.Nat.{ℕ, _≤_, _-_}
 use native.Mathlib.Omega.{arith}
 use lib.ListN.{getD}
 use Rattle.protocol.specs.Cards.{cardStart}
-use Rattle.card_checks.specs.Buckets.{bucketOf, chain, Walk, walk-start, walk-low, walk-on, walk-ends, walk-meets, Verdict}
+use Rattle.card_checks.specs.Buckets.{bucketOf, chain, Walk, walk-start, walk-low, walk-on, walk-ends, walk-meets}
 use Rattle.card_checks.proofs.buckets.apart.Statement.{statement}
 use Rattle.card_checks.proofs.buckets.apart.Tie as tie
 

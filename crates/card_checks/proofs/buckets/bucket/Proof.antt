@@ -1,5 +1,5 @@
 -- `bucket`: the product fits, and the rest of a division is below the divisor. Assumes nothing.
-use mathlib.Core.Path.{_≡_, ap, subst, sym}
+use mathlib.Core.Path.{ap, subst, sym}
 use Prim.Native.Nat.{_*_, _/_, _%_, _<_}
 use Rattle.card_checks.specs.Buckets.{buckets, bucketOf, bucket-below}
 use borrow.Author.Needs.{needs}

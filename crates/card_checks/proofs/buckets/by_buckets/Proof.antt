@@ -1,5 +1,4 @@
 -- `by_buckets`: the buckets come empty. Assumes nothing.
-use native.Mathlib.Omega.{arith}
 use lib.ListN.{getD-replicate}
 use borrow.Author.Needs.{needs}
 use Rattle.card_checks.proofs.buckets.by_buckets.Statement.{statement}

@@ -4,7 +4,7 @@ use mathlib.Core.Path.{_≡_, sym, _∙_, ap}
 use Prim.Native.Nat.{_+_, _≤_, _-_}
 use native.Mathlib.Omega.{arith}
 use lib.Dec.{eqb}
-use lib.ListN.{length, getD}
+use lib.ListN.{getD}
 use Rattle.lists.specs.Basics.{if_then_else_}
 use Rattle.lists.specs.Merge.{merged, merged-none, merged-more}
 use Rattle.card_checks.proofs.digits.followers.Statement.{statement}

@@ -1,10 +1,9 @@
 -- `bad_bits`: the failures of the words, merged. Assumes nothing.
 use borrow.Author.Needs.{needs}
 use mathlib.Core.Path.{_≡_, sym, _∙_, ap}
-use mathlib.Core.Bool.{not}
 use Prim.Native.Nat.{_≤_, _-_}
 use native.Mathlib.Omega.{arith}
-use lib.Dec.{ltb, eqb}
+use lib.Dec.{ltb}
 use lib.ListN.{length, getD}
 use Rattle.lists.specs.Basics.{if_then_else_}
 use Rattle.lists.specs.Merge.{merged, merged-none, merged-more}

@@ -6,7 +6,6 @@ use native.Mathlib.Omega.{arith}
 use lib.Dec.{leb, eqb}
 use lib.ListN.{length, getD}
 use Rattle.lists.specs.Basics.{if_then_else_}
-use Rattle.clockwise.specs.Clockwise.{dist}
 use Rattle.cardlayout.specs.Reach.{top, least, least-none, least-more}
 use Rattle.card_checks.specs.Homes.{farTo, closest}
 use Rattle.card_checks.proofs.owners.closest.Statement.{statement}

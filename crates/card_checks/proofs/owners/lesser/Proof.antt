@@ -1,5 +1,4 @@
 -- `lesser`. Assumes nothing.
-use borrow.Author.Needs.{needs}
 use borrow.Author.Tests.{le-leb, lt-leb}
 use Rattle.lists.specs.Basics.{if_then_else_}
 use Rattle.card_checks.proofs.owners.lesser.Statement.{statement}

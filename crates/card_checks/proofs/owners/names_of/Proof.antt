@@ -1,6 +1,5 @@
 -- `names_of`: copied into an array of zeros. Assumes nothing.
 use mathlib.Core.Path.{_∙_}
-use native.Mathlib.Omega.{arith}
 use Rattle.card_checks.specs.Homes.{copied, getD-zeros}
 use borrow.Author.Needs.{needs}
 use Rattle.card_checks.proofs.owners.names_of.Statement.{statement}

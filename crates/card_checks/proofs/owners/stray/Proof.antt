@@ -1,5 +1,4 @@
 -- `stray`: the three tests of a card, by the tables. Assumes nothing.
-use Rattle.lists.specs.Basics.{if_then_else_}
 use Rattle.card_checks.specs.Homes.{atHome}
 use borrow.Author.Needs.{needs}
 use Rattle.card_checks.proofs.owners.stray.Statement.{statement}

@@ -3,7 +3,7 @@ use borrow.Author.Needs.{needs}
 use mathlib.Core.Path.{_≡_, sym, _∙_, ap}
 use Prim.Native.Nat.{_+_, _≤_, _-_}
 use native.Mathlib.Omega.{arith}
-use lib.ListN.{length, getD}
+use lib.ListN.{getD}
 use Rattle.lists.specs.Basics.{if_then_else_}
 use Rattle.lists.specs.Merge.{merged, merged-none, merged-more}
 use Rattle.protocol.specs.Cards.{cardStart}

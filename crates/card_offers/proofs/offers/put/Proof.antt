@@ -1,7 +1,6 @@
 -- `put`: by where the search for its machine ended. Assumes nothing.
-use mathlib.Core.Path.{_≡_, refl, sym, _∙_, ap, subst}
-use native.Mathlib.Omega.{arith}
-use Prim.Native.Nat.{ℕ, _+_}
+use mathlib.Core.Path.{_∙_, ap}
+use Prim.Native.Nat.{_+_}
 use lib.ListN.{set}
 use Rattle.protocol.specs.Cards.{cardsIn}
 use Rattle.card_offers.specs.Offers.{added-is, offer-kept, offer-24, offer-last}

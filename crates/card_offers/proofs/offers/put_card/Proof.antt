@@ -1,5 +1,4 @@
 -- `put_card`: through the part that starts at its place. Assumes nothing.
-use mathlib.Core.Path.{_≡_, refl, sym, _∙_, ap, subst}
 use native.Mathlib.Omega.{arith}
 use Rattle.lists.specs.Splice.{put-tail}
 use Rattle.protocol.specs.Cards.{cardStart, cardWords}

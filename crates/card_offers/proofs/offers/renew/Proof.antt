@@ -1,7 +1,5 @@
 -- `renew`: the revisions, then the prices decide. Assumes nothing.
-use mathlib.Core.Path.{_≡_, refl, sym, _∙_, ap, subst}
-use native.Mathlib.Omega.{arith}
-use Prim.Native.Nat.{ℕ}
+use mathlib.Core.Path.{_∙_, ap}
 use Rattle.protocol.specs.Cards.{cardStart, cardFrom, readBook, renewed, offerWritten}
 use Rattle.card_offers.specs.Offers.{card-of-read, renewed-is, offer-higher, offer-22, offer-23, offer-same}
 use borrow.Author.Needs.{needs}

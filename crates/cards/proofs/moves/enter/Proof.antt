@@ -1,5 +1,5 @@
 -- `enter`: a mark, and what it brings. Assumes nothing.
-use mathlib.Core.Path.{_≡_, refl, sym, _∙_}
+use mathlib.Core.Path.{refl, sym, _∙_}
 use native.Mathlib.Omega.{arith}
 use lib.ListN.{length-set}
 use Rattle.cards.specs.Follow.{marked-neat, marked-count, enter-law}

@@ -9,7 +9,7 @@ use Rattle.clockwise.specs.Clockwise.{dist}
 use Rattle.lists.specs.Basics.{if_then_else_}
 use Rattle.protocol.specs.declared.Card.{Card}
 use Rattle.protocol.specs.Record.{round}
-use Rattle.protocol.specs.Cards.{bookSize, cardStart, cardFrom, readBook, bookWords, putBook}
+use Rattle.protocol.specs.Cards.{bookSize, cardStart, cardFrom, readBook, putBook}
 use Rattle.cardlayout.specs.Books.{read-fits, book-read, count-of-book}
 use Rattle.cards.specs.Moves.{handedBook, handed-read, handed-more, handed-all}
 use Rattle.cards.proofs.moves.hand_over.Statement.{statement}

@@ -1,5 +1,5 @@
 -- `leave`: a mark taken away, and what goes with it. Assumes nothing.
-use mathlib.Core.Path.{_≡_, refl, sym, _∙_}
+use mathlib.Core.Path.{refl, sym, _∙_}
 use native.Mathlib.Omega.{arith}
 use lib.ListN.{length-set}
 use Rattle.cards.specs.Follow.{marked-neat, marked-count, stay-law, leave-law}

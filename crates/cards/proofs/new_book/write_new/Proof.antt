@@ -1,5 +1,5 @@
 -- `write_new`: all words 0, and the founder marked. Assumes nothing.
-use mathlib.Core.Path.{_≡_, _∙_, ap}
+use mathlib.Core.Path.{_∙_, ap}
 use Prim.Native.Nat.{_+_}
 use lib.ListN.{set}
 use Rattle.cards.specs.New.{new-law}

@@ -1,9 +1,7 @@
 -- `depart`: no other member, and the record is put back; or the mark goes. Assumes nothing.
-use mathlib.Core.Path.{_≡_, refl, sym, _∙_, ap, subst}
-use native.Mathlib.Omega.{arith}
-use mathlib.Core.Bool.{not, false}
+use mathlib.Core.Path.{sym, _∙_, ap}
+use mathlib.Core.Bool.{not}
 use mathlib.Core.List.{_++_}
-use lib.Dec.{eqb}
 use lib.ListN.{set, drop}
 use borrow.Author.Tests.{eq-eqb, ne-eqb}
 use Rattle.lists.specs.Choice.{on-yes, on-no}
@@ -11,7 +9,7 @@ use Rattle.protocol.specs.declared.Answer.the-variants.{Gone}
 use Rattle.protocol.specs.declared.Outcome.the-variants.{Refused, Answered}
 use Rattle.protocol.specs.Record.{read}
 use Rattle.protocol.specs.WellFormed.{identifiers}
-use Rattle.protocol.specs.Cards.{CardsCalled, marksIn, following}
+use Rattle.protocol.specs.Cards.{marksIn, following}
 use Rattle.card_checks.specs.Marks.{some-marked, any-law, others-law}
 use Rattle.cards.specs.Follow.{off-bits}
 use borrow.Author.Needs.{needs}

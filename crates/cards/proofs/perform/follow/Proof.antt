@@ -1,12 +1,11 @@
 -- `follow`: arm by arm, what the answer does. Assumes nothing.
-use mathlib.Core.Path.{_≡_, refl, sym, _∙_, ap, subst}
-use native.Mathlib.Omega.{arith}
-use Rattle.protocol.specs.declared.Answer.the-variants.{Entered, Gone}
+use mathlib.Core.Path.{sym, _∙_, ap, subst}
+use Rattle.protocol.specs.declared.Answer.the-variants.{Entered}
 use Rattle.protocol.specs.declared.Outcome.the-variants.{Answered}
 use Rattle.protocol.specs.Record.{mostNodes, read}
 use Rattle.protocol.specs.WellFormed.{identifiers}
 use lib.ListN.{length}
-use Rattle.protocol.specs.Cards.{CardsCalled, following}
+use Rattle.protocol.specs.Cards.{following}
 use Rattle.cards.specs.Movers.{Bound}
 use borrow.Author.Needs.{needs}
 use Rattle.cards.proofs.perform.follow.Statement.{statement}

@@ -1,14 +1,13 @@
 -- `perform`: the step on the record, then its answer. Assumes nothing.
-use mathlib.Core.Path.{_≡_, refl, sym, _∙_, ap, subst}
+use mathlib.Core.Path.{sym, _∙_, ap}
 use native.Mathlib.Omega.{arith}
 use Rattle.protocol.specs.Record.{mostNodes, read}
 use Rattle.protocol.specs.Step.{step}
-use Rattle.protocol.specs.Calls.{Called}
 use Rattle.protocol.specs.WellFormed.{identifiers}
 use Rattle.protocol.specs.declared.Outcome.the-variants.{Refused}
 use lib.ListN.{length}
-use Rattle.protocol.specs.Cards.{CardsCalled, afterCall}
-use Rattle.cards.specs.Movers.{Bound, bound-more}
+use Rattle.protocol.specs.Cards.{afterCall}
+use Rattle.cards.specs.Movers.{bound-more}
 use Rattle.cards.specs.Asked.{came-back, answer-bound, after-law, refused-kept}
 use borrow.Author.Needs.{needs}
 use Rattle.cards.proofs.perform.perform.Statement.{statement}

@@ -1,5 +1,5 @@
 -- `step`: the questions of both slices, then `perform`. Assumes nothing.
-use mathlib.Core.Path.{_≡_, refl, sym, _∙_, ap, subst}
+use mathlib.Core.Path.{sym, _∙_}
 use native.Mathlib.Omega.{arith}
 use borrow.Author.Tests.{not-true, not-false}
 use Rattle.protocol.specs.Calls.{stepCall}

@@ -6,7 +6,6 @@ use native.Mathlib.Omega.{arith}
 use lib.ListN.{length, getD, length-set}
 use lib.Seq.{getD-set-other}
 use Rattle.lists.specs.Members.{filled}
-use Rattle.protocol.specs.Record.{recordSize}
 use Rattle.cards.specs.Asked.{restored-all}
 use Rattle.cards.proofs.undo.restore.Statement.{statement}
 use Rattle.cards.proofs.undo.restore.Tie as tie

@@ -1,10 +1,9 @@
 -- `save`: the first i words are copied. Assumes nothing.
 use borrow.Author.Needs.{needs}
-use mathlib.Core.Path.{_≡_, refl, _∙_}
+use mathlib.Core.Path.{_≡_, refl}
 use Prim.Native.Nat.{ℕ, _≤_, _<_, _-_}
 use native.Mathlib.Omega.{arith}
 use lib.ListN.{length, getD, length-set}
-use lib.Seq.{getD-set-other}
 use Rattle.lists.specs.Members.{filled}
 use Rattle.protocol.specs.Record.{recordSize}
 use Rattle.cards.specs.Asked.{saved-all}
