@@ -10,7 +10,7 @@ ghost use Rattle.protocol.specs.Cards.{mostCards, bookSize, cardStart};
 ghost use Rattle.card_checks.specs.Buckets.{buckets, bucketOf, last, unmet, Verdict};
 
 // How many cards of a bucket a card is held against before the walk is given up.
-const MOST_STEPS: usize = 5;
+const MOST_STEPS: usize = 4;
 
 fn wide(x: u32) -> u64
     ensures { λ r. ⌜ (r ≡ x) × (r < 4294967296) ⌝ }

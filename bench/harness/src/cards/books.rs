@@ -56,7 +56,7 @@ fn bucket(machine: u32) -> u64 {
 
 /// With so many in a bucket, the engine gives up at the next: one more than it
 /// looks at.
-const BORNE: usize = 6;
+const BORNE: usize = 5;
 
 /// Revision and price of the card at this place.
 pub fn terms(place: usize) -> (u32, u32) {
@@ -103,8 +103,8 @@ mod tests {
         assert!(in_buckets(Machines::Spread).len() > 300);
         assert_eq!(in_buckets(Machines::OneBucket), [512]);
         let full = in_buckets(Machines::FullBuckets);
-        assert_eq!(full.len(), 86);
-        assert_eq!((full[0], full[1], full[84], full[85]), (1, 6, 6, 7));
+        assert_eq!(full.len(), 103);
+        assert_eq!((full[0], full[1], full[101], full[102]), (1, 5, 5, 6));
     }
 
     /// Where the engine finds its buckets in another way, other numbers are
@@ -118,7 +118,7 @@ mod tests {
             fs::read_to_string(file).unwrap_or_default()
         });
         let place = "(wide(machine) * 2654435769 / 4194304 % 1024) as usize";
-        let most = "const MOST_STEPS: usize = 5;";
+        let most = "const MOST_STEPS: usize = 4;";
         assert!(texts.any(|text| text.contains(place) && text.contains(most)));
     }
 

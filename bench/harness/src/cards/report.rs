@@ -19,8 +19,8 @@ cards are compared. Figures are nanoseconds of one call, best / median; rounds, 
   pointers, if the stretches between them add up to one circle, and is sorted for otherwise.
 - **engine, no cards**: the engine's `ring_step` with the same command on the same record; beside an offer, its `ring_owner` for the machine.
 
-Machines are spread over all 32 bits; or chosen against the engine's hash table, which gives up where seven are in one bucket: all in one bucket,
-or six in each and at last a seventh in one (full buckets).
+Machines are spread over all 32 bits; or chosen against the engine's hash table, which gives up where six are in one bucket: all in one bucket,
+or five in each and at last a sixth in one (full buckets).
 
 ";
 
