@@ -8,6 +8,7 @@
 use std::hint::black_box;
 use std::time::Instant;
 
+use crate::moving::{Moving, ALIGNED};
 use crate::turns::{in_passes, median, Rounds, Time};
 
 mod books;
@@ -24,12 +25,6 @@ pub use report::section;
 
 /// Timed sections of one contestant's turn; one more before them is not counted.
 const SECTIONS: usize = 8;
-/// Both begin at a multiple of this, as memory from malloc does.
-const ALIGNED: usize = 16;
-/// They move within a page.
-const PAGE: usize = 4096;
-/// How far they move from round to round.
-const MOVE: usize = 17 * ALIGNED;
 
 /// One case's figures, by contestant.
 pub struct Figures {
@@ -46,33 +41,25 @@ pub fn measure(rounds: usize) -> Vec<Figures> {
 
 /// Memory that all contestants work on.
 struct Room {
-    memory: Vec<u8>,
-    begin: usize,
+    memory: Moving,
     out: [u8; 20],
 }
 
 impl Room {
     fn new(case: &Case) -> Room {
-        let size = case.record.len() + case.book.len();
+        let size = case.record.len().next_multiple_of(ALIGNED) + case.book.len();
         Room {
-            memory: vec![0; size + PAGE + 2 * ALIGNED],
-            begin: 0,
+            memory: Moving::new(size),
             out: [0; 20],
         }
     }
 
-    fn move_on(&mut self, round: usize) {
-        let address = self.memory.as_ptr() as usize;
-        let aligned = address.next_multiple_of(ALIGNED) - address;
-        self.begin = aligned + round * MOVE % PAGE;
-    }
-
     /// Nanoseconds for one call on the restored copy.
     fn section(&mut self, contestant: &Contestant, case: &Case) -> f64 {
-        let (record, rest) = self.memory[self.begin..].split_at_mut(case.record.len());
-        let book = &mut rest[case.record.len().next_multiple_of(ALIGNED) - case.record.len()..];
+        let behind = case.record.len().next_multiple_of(ALIGNED);
+        let (record, book) = self.memory.bytes().split_at_mut(behind);
         let mut lent = Lent {
-            record,
+            record: &mut record[..case.record.len()],
             book: &mut book[..case.book.len()],
             out: &mut self.out,
         };
@@ -111,7 +98,7 @@ impl Measurement {
         let Measurement { case, rounds: all } = self;
         let mut room = Room::new(case);
         for _ in 0..rounds {
-            room.move_on(all.count());
+            room.memory.move_on(all.count());
             let idle = median(&mut room.turn(&IDLE, case));
             all.round(|who| room.turn(&CONTESTANTS[who], case).map(|time| time - idle));
         }

@@ -8,6 +8,7 @@ mod contestants;
 mod frames;
 mod kept;
 mod measure;
+mod moving;
 mod plot;
 mod programs;
 mod ratios;

@@ -13,6 +13,7 @@ use std::time::Instant;
 
 use crate::cases::Case;
 use crate::contestants::{Contestant, CONTESTANTS, COUNT, IDLE, PLAIN};
+use crate::moving::Moving;
 use crate::turns::{in_passes, median, Rounds, Time};
 
 /// Copies of a record, each called once in a timed section.
@@ -21,12 +22,6 @@ const COPIES: usize = 3;
 const SECTIONS: usize = 20;
 /// Bytes of an answer.
 const OUT: usize = 20;
-/// Records begin at a multiple of this, as memory from malloc does.
-const ALIGNED: usize = 16;
-/// They move within a page.
-const PAGE: usize = 4096;
-/// How far they move from round to round: all places of a page are met.
-const MOVE: usize = 17 * ALIGNED;
 
 /// One case's figures, by contestant.
 pub struct Figures {
@@ -36,30 +31,22 @@ pub struct Figures {
 
 /// Memory that all contestants work on.
 struct Room {
-    memory: Vec<u8>,
-    begin: usize,
+    memory: Moving,
     out: [u8; OUT],
 }
 
 impl Room {
     fn new(size: usize) -> Room {
         Room {
-            memory: vec![0; COPIES * size + PAGE + ALIGNED],
-            begin: 0,
+            memory: Moving::new(COPIES * size),
             out: [0; OUT],
         }
-    }
-
-    fn move_on(&mut self, round: usize) {
-        let address = self.memory.as_ptr() as usize;
-        let aligned = address.next_multiple_of(ALIGNED) - address;
-        self.begin = aligned + round * MOVE % PAGE;
     }
 
     /// Nanoseconds for one call on each of the restored copies.
     fn section(&mut self, contestant: &Contestant, case: &Case) -> f64 {
         let size = case.record.len();
-        let copies = &mut self.memory[self.begin..self.begin + COPIES * size];
+        let copies = &mut self.memory.bytes()[..COPIES * size];
         for copy in copies.chunks_exact_mut(size) {
             copy.copy_from_slice(&case.record);
         }
@@ -105,7 +92,7 @@ impl Measurement {
         let Measurement { case, rounds: all } = self;
         let mut room = Room::new(case.record.len());
         for _ in 0..rounds {
-            room.move_on(all.count());
+            room.memory.move_on(all.count());
             let idle = median(&mut room.turn(&IDLE, case));
             all.round(|who| room.turn(&CONTESTANTS[who], case).map(|time| time - idle));
         }
