@@ -27,7 +27,7 @@ fn words_are_0_or_1(words: &[u32]) -> bool {
     words.iter().all(|&word| word == 0 || word == 1)
 }
 
-/// 'Unused ones are 0': the words behind the last card.
+/// Whether all words behind the last card are 0.
 fn unused_are_0(words: &[u32]) -> bool {
     let used = FIRST_CARD + CARD_WORDS * words[0] as usize;
     words.iter().skip(used).all(|&word| word == 0)

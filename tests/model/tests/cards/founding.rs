@@ -20,7 +20,7 @@ fn row(n: u32) -> Vec<u32> {
     (0..n).map(|i| 4_294_967_290_u32.wrapping_add(i)).collect()
 }
 
-/// 'No card and the founder as its only member', whatever was there before.
+/// The founder's mark alone, whatever was there before.
 #[test]
 fn a_new_slice() {
     for n in 1..=64 {

@@ -67,8 +67,8 @@ fn another_member_lets_it_go() {
     }
 }
 
-/// 'A gone hub that was no member changes no word', be there one member or
-/// more; the record moves on.
+/// Where the hub that goes has no mark, the cards stay as they are, be there
+/// one member or more; the record moves on.
 #[test]
 fn no_member_goes() {
     let mut alone = leaving();

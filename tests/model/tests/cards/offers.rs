@@ -38,7 +38,7 @@ fn higher_revisions() {
     }
 }
 
-/// 'Equal cards change nothing.'
+/// The very card that is kept, offered again.
 #[test]
 fn equal_cards() {
     for [machine, revision, price, _] in KEPT {

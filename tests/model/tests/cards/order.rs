@@ -140,8 +140,8 @@ fn the_last_question_is_last() {
     assert_eq!(both(false, &damaged).step(3, 1, 0), Err(2));
 }
 
-/// 'A step refused by the cards' 1 or 2 counts as refused', the last 2 too; an
-/// offer has no tally.
+/// The tally counts a step that is refused because of its cards, by the last
+/// question too; an offer has no tally.
 #[test]
 fn refused_steps_are_counted() {
     let mut tally = Tally::default();

@@ -45,7 +45,7 @@ fn sound_slices_pass() {
     }
 }
 
-/// 'Words 1 to 64 are 0 or 1.'
+/// A mark of 2 or more.
 #[test]
 fn member_words() {
     for hub in 0..64 {
@@ -55,7 +55,7 @@ fn member_words() {
     }
 }
 
-/// 'Its members are at least one and all below n.'
+/// No mark at all, and marks behind the ring's last hub.
 #[test]
 fn members_below_n() {
     assert!(!passes(&slice(&[], &[])));
@@ -66,7 +66,7 @@ fn members_below_n() {
     }
 }
 
-/// 'Its count is at most 512.'
+/// One card more than there is room for, and far more.
 #[test]
 fn counts() {
     let mut full = slice(&MEMBERS, &many(&THREE, &MEMBERS, MOST));
@@ -78,7 +78,7 @@ fn counts() {
     }
 }
 
-/// 'Unused ones are 0': a count too small leaves words of a card behind it.
+/// A count too small leaves words of a card where none should be.
 #[test]
 fn unused_words() {
     for count in 0..4 {
@@ -103,7 +103,7 @@ fn a_card_of_zeros() {
     assert!(!passes(&others));
 }
 
-/// 'Its machines differ', wherever the two stand.
+/// A machine with two cards, wherever they stand.
 #[test]
 fn machines() {
     for (one, other) in [(0, 1), (0, 3), (2, 3), (1, 3), (3, 0), (1, 2)] {
@@ -123,7 +123,7 @@ fn machines() {
     }
 }
 
-/// 'Each card's hub is the owner among its members': no other number will do.
+/// A card with another hub than its owner: no other number will do.
 #[test]
 fn hubs() {
     for (card, &[_, _, _, hub]) in CARDS.iter().enumerate() {
