@@ -1,2 +1,3 @@
 pub mod Clockwise
 pub mod Laws
+pub mod Ranges
