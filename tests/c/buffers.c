@@ -136,6 +136,7 @@ int main(void)
     for (size_t k = 0; k < COUNT(guards); k++) {
         guard = guards[k];
         foundings();
+        ranges();
         sheets();
         price_cards();
         step_at_each_length();

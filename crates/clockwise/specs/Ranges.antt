@@ -73,15 +73,15 @@ module _ (n : ℕ) where
             let x : a + dist n a v ≡ v + n = past a v ha hv (omega arith) in
             simp (le-ltb a v (omega arith), le-leb 1 (dist n a v) (omega arith), leb-alike v b (dist n a v) (dist n a b) (λ k. omega arith) (λ k. omega arith))
 
-    -- the three cases together
-    pub range-within : inRange a b v ≡ within n a b v
-    unfolding inRange
-    range-within = go (ℕ-discrete a b) (decLt a b)
-      where
-        go : Dec (a ≡ b) → Dec (a < b) → inRange a b v ≡ within n a b v
-        go (yes e) _ = simp (eq-eqb a b e, whole e)
-        go (no e) (yes l) = simp (ne-eqb a b e, lt-ltb a b l, below l)
-        go (no e) (no l) = simp (ne-eqb a b e, le-ltb a b (omega arith), passing (omega arith))
+-- The three cases together, at every modulus.
+pub range-within : (n a b v : ℕ) → a < n → b < n → v < n → inRange a b v ≡ within n a b v
+unfolding inRange
+range-within n a b v ha hb hv = go (ℕ-discrete a b) (decLt a b)
+  where
+    go : Dec (a ≡ b) → Dec (a < b) → inRange a b v ≡ within n a b v
+    go (yes e) _ = simp (eq-eqb a b e, whole n a b v ha hb hv e)
+    go (no e) (yes l) = simp (ne-eqb a b e, lt-ltb a b l, below n a b v ha hb hv l)
+    go (no e) (no l) = simp (ne-eqb a b e, le-ltb a b (omega arith), passing n a b v ha hb hv (omega arith))
 
 -- The premises are needed: for a number that is not below the modulus the two part ways.
 pub beyond : (inRange 1 3 10 ≡ false) × (within 8 1 3 10 ≡ true)

@@ -21,6 +21,7 @@ use crate::parts::PARTS;
 use crate::reached::Reached;
 use crate::sheets::wrong::{same_read, same_write, READS, WRITES};
 use crate::wrong_foundings::{NAMED, UNNAMED};
+use crate::wrong_ranges::{same_owner, OWNERS};
 
 /// A seldom fault shows in one of so many calls.
 const SELDOM: u64 = 3000;
@@ -77,7 +78,9 @@ pub fn faults() -> Vec<Fault> {
     let fault = |name, part, calls| Fault { name, part, calls };
     let steps = STEPS.iter().map(|&(name, part, step)| fault(name, part, Calls { step, ..ENGINE }));
     let filtered = |&(name, inspect)| fault(name, "inspect", Calls { inspect, ..ENGINE });
-    let others = other_faults().into_iter().chain(FILTERS.iter().map(filtered));
+    let ranged = |&(name, owner)| fault(name, "unreachable", Calls { owner, ..ENGINE });
+    let ranges = OWNERS.iter().map(ranged);
+    let others = other_faults().into_iter().chain(FILTERS.iter().map(filtered)).chain(ranges);
     let cards = wrong::faults().into_iter().map(|(name, part, calls)| fault(name, part, calls));
     steps.chain(wrong_foundings()).chain(wrong_sheets()).chain(cards).chain(others).collect()
 }
@@ -129,15 +132,17 @@ impl Fault {
     }
 }
 
-/// That `inspect` passes behind a filter that changes nothing, and the calls with sheets and cards
-/// behind what makes them wrong elsewhere: the faults are seen there, not their wrapping.
-pub fn wrappings_pass(seed: u64) -> [(&'static str, bool); 4] {
+/// That `inspect` passes behind a filter that changes nothing, and the calls with sheets, cards and
+/// ranges behind what makes them wrong elsewhere: the faults are seen there, not their wrapping.
+pub fn wrappings_pass(seed: u64) -> [(&'static str, bool); 5] {
     let filter = Calls { inspect: NO_FAULT, ..ENGINE };
     let sheets = Calls { sheet_read: same_read, sheet_write: same_write, ..ENGINE };
+    let owner = Calls { owner: same_owner, ..ENGINE };
     let cards = "calls with cards that change nothing are not found wrong";
     [
         ("a filter that changes nothing is not found wrong", "inspect", filter),
         ("sheet calls that change nothing are not found wrong", "sheets", sheets),
+        ("owners by the right range are not found wrong", "unreachable", owner),
         (cards, "cards", wrong::same()),
         (cards, "damaged_cards", wrong::same()),
     ]

@@ -42,6 +42,7 @@ mod trouble;
 mod unreachable;
 mod wrong_claims;
 mod wrong_foundings;
+mod wrong_ranges;
 
 use std::env;
 use std::process::ExitCode;

@@ -1,6 +1,6 @@
 //! Document 01 read aloud: its listing, its probes, the field engineer's
-//! checks, every refusal number, and the faults a good engineer makes; and who
-//! founds, by document 02.
+//! checks, every refusal number, and the faults a good engineer makes; and, by
+//! document 02, who founds and how planners read a range.
 
 mod common;
 
@@ -16,6 +16,8 @@ mod kinds;
 mod listing;
 #[path = "document/probes.rs"]
 mod probes;
+#[path = "document/ranges.rs"]
+mod ranges;
 #[path = "document/refusals.rs"]
 mod refusals;
 #[path = "document/well_formed.rs"]
