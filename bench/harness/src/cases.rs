@@ -1,7 +1,12 @@
 //! The calls that are measured at a point (n, m).
 
+use ring_model::generator::Generator;
+
 use crate::contestants::Call;
-use crate::records::{identifier, record};
+use crate::records::{identifier, record, scattered};
+
+/// How many calls there are of a kind that is about any number.
+const MANY: usize = 1024;
 
 /// What is asked of the contestants.
 #[derive(Clone, Copy, PartialEq, Eq)]
@@ -15,10 +20,12 @@ pub enum Kind {
     DamagedFirst,
     DamagedLast,
     Owner,
+    AskAny,
+    OwnerOfAny,
 }
 
 /// All of them, in the order of the table.
-pub const KINDS: [Kind; 9] = [
+pub const KINDS: [Kind; 11] = [
     Kind::AskAnswered,
     Kind::AskSent,
     Kind::DeliverFirst,
@@ -28,6 +35,8 @@ pub const KINDS: [Kind; 9] = [
     Kind::DamagedFirst,
     Kind::DamagedLast,
     Kind::Owner,
+    Kind::AskAny,
+    Kind::OwnerOfAny,
 ];
 
 impl Kind {
@@ -43,22 +52,27 @@ impl Kind {
             Kind::DamagedFirst => "refused (2, first row)",
             Kind::DamagedLast => "refused (2, last message)",
             Kind::Owner => "owner",
+            Kind::AskAny => "ask, any number, hubs in any order",
+            Kind::OwnerOfAny => "owner, any number, hubs in any order",
         }
     }
 }
 
-/// A call on a record, and the number that it returns.
+/// A call on a record, or several that take turns, and the number that they return.
 pub struct Case {
     pub kind: Kind,
     pub n: u32,
     pub m: usize,
-    pub call: Call,
+    pub calls: Vec<Call>,
     pub record: Vec<u8>,
     pub returns: u32,
 }
 
 /// The case of this kind at a point, if the point has one.
 pub fn case(kind: Kind, n: u32, m: usize) -> Option<Case> {
+    if kind == Kind::AskAny || kind == Kind::OwnerOfAny {
+        return any(kind, n, m);
+    }
     let (call, returns) = call(kind, n, m)?;
     let mut record = record(n, m);
     match kind {
@@ -70,9 +84,30 @@ pub fn case(kind: Kind, n: u32, m: usize) -> Option<Case> {
         kind,
         n,
         m,
-        call,
+        calls: vec![call],
         record,
         returns,
+    })
+}
+
+/// Calls about any number, where hubs do not stand in the order of their
+/// numbers: no branch on the numbers can be foretold.
+fn any(kind: Kind, n: u32, m: usize) -> Option<Case> {
+    if n < 3 || m > 0 {
+        return None;
+    }
+    let mut generator = Generator::new(u64::from(n));
+    let calls = (0..MANY).map(|_| match kind {
+        Kind::AskAny => Call::Step(0, generator.below(n), generator.next_u32()),
+        _ => Call::Owner(generator.next_u32()),
+    });
+    Some(Case {
+        kind,
+        n,
+        m,
+        calls: calls.collect(),
+        record: scattered(n),
+        returns: 0,
     })
 }
 

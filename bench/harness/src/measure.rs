@@ -8,11 +8,12 @@
 //! who copy the record. What a call that does nothing takes, measured in the
 //! same way, is subtracted.
 
+use std::array;
 use std::hint::black_box;
 use std::time::Instant;
 
 use crate::cases::Case;
-use crate::contestants::{Contestant, CONTESTANTS, COUNT, IDLE, PLAIN};
+use crate::contestants::{Call, Contestant, CONTESTANTS, COUNT, IDLE, PLAIN};
 use crate::moving::Moving;
 use crate::turns::{in_passes, median, Rounds, Time};
 
@@ -33,6 +34,8 @@ pub struct Figures {
 struct Room {
     memory: Moving,
     out: [u8; OUT],
+    /// Calls that were made.
+    made: usize,
 }
 
 impl Room {
@@ -40,6 +43,7 @@ impl Room {
         Room {
             memory: Moving::new(COPIES * size),
             out: [0; OUT],
+            made: 0,
         }
     }
 
@@ -50,9 +54,11 @@ impl Room {
         for copy in copies.chunks_exact_mut(size) {
             copy.copy_from_slice(&case.record);
         }
-        let call = black_box(case.call);
+        let calls = array::from_fn(|next| case.calls[(self.made + next) % case.calls.len()]);
+        self.made += COPIES;
+        let calls: [Call; COPIES] = black_box(calls);
         let start = Instant::now();
-        for record in copies.chunks_exact_mut(size) {
+        for (record, call) in copies.chunks_exact_mut(size).zip(calls) {
             black_box(contestant.call(call, record, &mut self.out));
         }
         start.elapsed().as_nanos() as f64 / COPIES as f64
@@ -109,16 +115,18 @@ impl Measurement {
 /// Nothing is measured that does not do the same: return, output and record
 /// are those of the plain model.
 fn agree(case: &Case) {
-    let outcome = |contestant: &Contestant| {
-        let (mut record, mut out) = (case.record.clone(), [0xBB; OUT]);
-        let number = contestant.call(case.call, &mut record, &mut out);
-        (number, out, record)
-    };
-    let expected = outcome(&CONTESTANTS[PLAIN]);
     let place = format!("{} at n = {}, m = {}", case.kind.name(), case.n, case.m);
-    assert_eq!(expected.0, case.returns, "{place}");
-    for contestant in &CONTESTANTS {
-        let same = outcome(contestant) == expected;
-        assert!(same, "{} differs: {place}", contestant.name);
+    for &call in &case.calls {
+        let outcome = |contestant: &Contestant| {
+            let (mut record, mut out) = (case.record.clone(), [0xBB; OUT]);
+            let number = contestant.call(call, &mut record, &mut out);
+            (number, out, record)
+        };
+        let expected = outcome(&CONTESTANTS[PLAIN]);
+        assert_eq!(expected.0, case.returns, "{place}");
+        for contestant in &CONTESTANTS {
+            let same = outcome(contestant) == expected;
+            assert!(same, "{} differs: {place}", contestant.name);
+        }
     }
 }

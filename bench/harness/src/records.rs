@@ -1,5 +1,6 @@
 //! The records that are measured: n hubs inside, m messages waiting.
 
+use ring_model::generator::Generator;
 use ring_model::record::{Message, State};
 use ring_model::{fresh, step, RECORD_WORDS};
 
@@ -21,7 +22,8 @@ pub fn identifier(n: u32, hub: u32) -> u32 {
 /// sends on, the last one the only one of its link. Between them every fourth
 /// hub's wish to leave and questions of all other hubs alternate.
 pub fn record(n: u32, m: usize) -> Vec<u8> {
-    let mut words = inside(n);
+    let identifiers: Vec<u32> = (0..n).map(|hub| identifier(n, hub)).collect();
+    let mut words = inside(&identifiers);
     if n == 1 {
         lone(&mut words, m);
     } else {
@@ -29,15 +31,29 @@ pub fn record(n: u32, m: usize) -> Vec<u8> {
     }
     let state = State::read(&words).expect("the record reads");
     assert_eq!((state.n(), state.messages.len()), (n, m));
+    bytes(&words)
+}
+
+/// A record of n hubs that are inside, at rest, and that stand in any order on
+/// the circle; hub 0 keeps its place, since it founds.
+pub fn scattered(n: u32) -> Vec<u8> {
+    let mut generator = Generator::new(2026);
+    let mut identifiers: Vec<u32> = (0..n).map(|hub| identifier(n, hub)).collect();
+    for hub in (2..n).rev() {
+        identifiers.swap(hub as usize, 1 + generator.below(hub) as usize);
+    }
+    bytes(&inside(&identifiers))
+}
+
+fn bytes(words: &[u32]) -> Vec<u8> {
     words.iter().flat_map(|word| word.to_le_bytes()).collect()
 }
 
-/// n hubs inside, at rest.
-fn inside(n: u32) -> Vec<u32> {
+/// Hubs with these identifiers inside, at rest. Hub 0 founds.
+fn inside(identifiers: &[u32]) -> Vec<u32> {
     let mut words = vec![0; RECORD_WORDS];
-    let identifiers: Vec<u32> = (0..n).map(|hub| identifier(n, hub)).collect();
-    fresh(&mut words, &identifiers).expect("fresh is accepted");
-    for hub in 1..n {
+    fresh(&mut words, identifiers).expect("fresh is accepted");
+    for hub in 1..identifiers.len() as u32 {
         step(&mut words, JOIN, hub, 0).expect("join is accepted");
         while let Some(oldest) = oldest(&words) {
             step(&mut words, DELIVER, oldest.from, oldest.to).expect("deliver is accepted");
