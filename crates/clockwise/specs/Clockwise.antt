@@ -11,8 +11,11 @@ dist N a b = (b + (N - a)) % N
 unfoldable pub within : ℕ → ℕ → ℕ → ℕ → Bool
 within N a b v = eqb a b || leb 1 (dist N a v) && leb (dist N a v) (dist N a b)
 
--- The same as planners read a range (document 02, 2026-05), by the three numbers alone: from a round to a itself it is everything; where a is
--- below b, what is above a and not above b; else the range passes zero, and is what is above a together with what is not above b. There is no
--- modulus in it: `range-within` (Laws.antt) says that for numbers below N it is (a, b], whatever N is.
+-- The same range as planners read it (document 02, 2026-05), by its three numbers alone. Where a is b it is everything; where a is below b, what
+-- is above a and not above b; else it passes zero, and has what is above a and also what is not above b. No modulus stands in it: `range-within`
+-- (Ranges.antt) says that for numbers below N it is (a, b], whatever N is.
 unfoldable pub inRange : ℕ → ℕ → ℕ → Bool
-inRange a b v = cond (eqb a b) true (cond (ltb a b) (ltb a v && leb v b) (ltb a v || leb v b))
+inRange a b v =
+    cond (eqb a b) true
+    (cond (ltb a b) (ltb a v && leb v b)
+    (ltb a v || leb v b))

@@ -2,6 +2,7 @@
 //! document 02's request 2026-05 meet.
 
 use ring_model::bytes::{NO_REFUSAL, OWNER_BYTES};
+use ring_model::clockwise::in_interval;
 use ring_model::record::{State, INSIDE, WANTING_TO_LEAVE};
 use ring_model::refusal::NO_HOLDER;
 
@@ -12,40 +13,29 @@ type Owner = fn(&[u8], u32, &mut [u8]) -> u32;
 
 /// Owner queries with a wrong range: what is wrong, and the call.
 pub const OWNERS: [(&str, Owner); 6] = [
-    ("a range from a number to itself is empty", |words, key, out| {
-        owner_by(words, key, out, |v, a, b| a != b && right(v, a, b))
+    ("a range (a, a] is empty", |words, key, out| {
+        owner_by(words, key, out, |v, a, b| a != b && in_interval(v, a, b))
     }),
-    ("a range begins with its first number", |words, key, out| {
-        owner_by(words, key, out, |v, a, b| (a < b && v == a) || right(v, a, b))
+    ("a range (a, b] has a", |words, key, out| {
+        owner_by(words, key, out, |v, a, b| (a < b && v == a) || in_interval(v, a, b))
     }),
-    ("a range that passes zero begins with its first number", |words, key, out| {
-        owner_by(words, key, out, |v, a, b| (b < a && v == a) || right(v, a, b))
+    ("a range (a, b] that passes zero has a", |words, key, out| {
+        owner_by(words, key, out, |v, a, b| (b < a && v == a) || in_interval(v, a, b))
     }),
-    ("a range ends before its last number", |words, key, out| {
-        owner_by(words, key, out, |v, a, b| a == b || (v != b && right(v, a, b)))
+    ("a range (a, b] lacks b", |words, key, out| {
+        owner_by(words, key, out, |v, a, b| a == b || (v != b && in_interval(v, a, b)))
     }),
     ("a range that passes zero ends there", |words, key, out| {
-        owner_by(words, key, out, |v, a, b| right(v, a, b) && (a <= b || a < v))
+        owner_by(words, key, out, |v, a, b| in_interval(v, a, b) && (a <= b || a < v))
     }),
     ("a range that passes zero begins there", |words, key, out| {
-        owner_by(words, key, out, |v, a, b| right(v, a, b) && (a <= b || v <= b))
+        owner_by(words, key, out, |v, a, b| in_interval(v, a, b) && (a <= b || v <= b))
     }),
 ];
 
 /// The owner query by the right range.
 pub fn same_owner(words: &[u8], key: u32, out: &mut [u8]) -> u32 {
-    owner_by(words, key, out, right)
-}
-
-/// The three cases.
-fn right(v: u32, a: u32, b: u32) -> bool {
-    if a == b {
-        return true;
-    }
-    if a < b {
-        return a < v && v <= b;
-    }
-    a < v || v <= b
+    owner_by(words, key, out, in_interval)
 }
 
 /// The lowest hub in whose range the key is, by this test; what else the engine says stands.
