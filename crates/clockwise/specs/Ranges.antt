@@ -1,7 +1,7 @@
 -- A range read by its three numbers is the interval (a, b], for every modulus n. Assumes nothing.
-use mathlib.Core.Path.{_≡_, refl, sym, _∙_}
+use mathlib.Core.Path.{_≡_, sym, _∙_}
 use mathlib.Core.Logic.{_⊎_, inl, inr, _≢_}
-use mathlib.Core.Bool.{true, false, _&&_, _||_}
+use mathlib.Core.Bool.{true, _&&_, _||_, true≢false, false≢true}
 use Prim.Native.Nat.{ℕ, _+_, _≤_, _<_}
 use native.Mathlib.Decide.{decLe, decLt, ℕ-discrete}
 use native.Mathlib.Omega.{arith}
@@ -83,7 +83,7 @@ range-within n a b v ha hb hv = go (ℕ-discrete a b) (decLt a b)
     go (no e) (yes l) = simp (ne-eqb a b e, lt-ltb a b l, below n a b v ha hb hv l)
     go (no e) (no l) = simp (ne-eqb a b e, le-ltb a b (omega arith), passing n a b v ha hb hv (omega arith))
 
--- The premises are needed: for a number that is not below the modulus the two part ways.
-pub beyond : (inRange 1 3 10 ≡ false) × (within 8 1 3 10 ≡ true)
+-- Each premise is needed: where a, b or v is not below the modulus, here 8, the two may differ.
+pub beyond : (inRange 10 3 0 ≢ within 8 10 3 0) × (inRange 1 10 5 ≢ within 8 1 10 5) × (inRange 1 3 10 ≢ within 8 1 3 10)
 unfolding inRange within dist
-beyond = (refl, refl)
+beyond = (true≢false, true≢false, false≢true)

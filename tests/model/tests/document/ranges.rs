@@ -5,7 +5,7 @@ use ring_model::clockwise::in_interval;
 
 /// The range from above `a` to `b` by the three numbers alone: all of them
 /// where `a` is `b`, then without zero inside, then with it.
-fn by_cases(v: u64, a: u64, b: u64) -> bool {
+fn by_cases(v: i64, a: i64, b: i64) -> bool {
     if a == b {
         return true;
     }
@@ -16,13 +16,13 @@ fn by_cases(v: u64, a: u64, b: u64) -> bool {
 }
 
 /// Document 01's interval on a circle of this many numbers.
-fn by_distances(circle: u64, v: u64, a: u64, b: u64) -> bool {
-    let distance = |to: u64| (to + circle - a) % circle;
+fn by_distances(circle: i64, v: i64, a: i64, b: i64) -> bool {
+    let distance = |to: i64| (to - a).rem_euclid(circle);
     a == b || (1 <= distance(v) && distance(v) <= distance(b))
 }
 
 /// All ways to choose three of these numbers.
-fn triples(numbers: &[u64]) -> impl Iterator<Item = [u64; 3]> + '_ {
+fn triples(numbers: &[i64]) -> impl Iterator<Item = [i64; 3]> + '_ {
     let pairs = move |v| {
         numbers
             .iter()
@@ -34,7 +34,7 @@ fn triples(numbers: &[u64]) -> impl Iterator<Item = [u64; 3]> + '_ {
 #[test]
 fn on_every_small_circle() {
     for circle in 1..=40 {
-        let numbers: Vec<u64> = (0..circle).collect();
+        let numbers: Vec<i64> = (0..circle).collect();
         for [v, a, b] in triples(&numbers) {
             let expected = by_distances(circle, v, a, b);
             assert_eq!(by_cases(v, a, b), expected, "{v} in ({a}, {b}] on {circle}");
@@ -45,9 +45,9 @@ fn on_every_small_circle() {
 /// Numbers at both ends, in the middle, and beside a range's ends.
 #[test]
 fn on_the_circle_of_the_ring() {
-    let top = u64::from(u32::MAX);
+    let top = i64::from(u32::MAX);
     let half = 1 << 31;
-    let around = |number: u64| [number - 1, number, number + 1];
+    let around = |number: i64| [number - 1, number, number + 1];
     let mut numbers = vec![0, 1, 2, top - 2, top - 1, top];
     for number in [100, 200, half, 3 << 30] {
         numbers.extend(around(number));
@@ -58,10 +58,10 @@ fn on_the_circle_of_the_ring() {
     }
 }
 
-/// A number that is on no place of the circle is read otherwise: the two agree
-/// for the circle's own numbers alone.
+/// The two agree for the circle's own numbers alone: not where the first, the
+/// second or the third number is no place on it.
 #[test]
 fn off_the_circle_they_part() {
-    assert!(by_distances(8, 10, 1, 3));
-    assert!(!by_cases(10, 1, 3));
+    let parted = |v, a, b| by_cases(v, a, b) != by_distances(8, v, a, b);
+    assert!(parted(0, 10, 3) && parted(5, 1, 10) && parted(10, 1, 3));
 }
