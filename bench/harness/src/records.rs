@@ -98,3 +98,36 @@ fn fill(words: &mut [u32], n: u32, m: usize) {
         step(words, operation, x, y).expect("a call that sends is accepted");
     }
 }
+
+#[cfg(test)]
+mod tests {
+    use super::*;
+    use ring_model::record::INSIDE;
+
+    fn state(record: &[u8]) -> State {
+        let word = |bytes: &[u8]| u32::from_le_bytes(bytes.try_into().expect("four bytes"));
+        let words: Vec<u32> = record.chunks_exact(4).map(word).collect();
+        State::read(&words).expect("the record reads")
+    }
+
+    /// In the order of their numbers: is each hub's succ the next one?
+    fn in_order(state: &State) -> usize {
+        let n = state.n();
+        (0..n)
+            .filter(|&hub| state.row(hub).succ == (hub + 1) % n)
+            .count()
+    }
+
+    #[test]
+    fn hubs_stand_in_order_or_in_any() {
+        for n in [16, 64] {
+            let (ordered, any) = (state(&record(n, 0)), state(&scattered(n)));
+            for ring in [&ordered, &any] {
+                assert_eq!(ring.n(), n);
+                assert!((0..n).all(|hub| ring.row(hub).state == INSIDE));
+            }
+            assert_eq!(in_order(&ordered), n as usize);
+            assert!(in_order(&any) <= n as usize / 8);
+        }
+    }
+}
