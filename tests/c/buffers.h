@@ -17,6 +17,9 @@ extern size_t guard; /* guard bytes on each side */
 
 #define COUNT(list) (sizeof(list) / sizeof *(list))
 
+/* No hub: what a row has where it points to none. */
+#define NONE 255u
+
 void expect(int holds, const char *what);
 
 /* Puts word i of a buffer of words: what ring_word reads there. */

@@ -4,7 +4,6 @@
  */
 #include "cards.h"
 
-#define NONE 255u
 #define LOOKUP 1u
 #define JOIN 2u
 #define LEAVEPOINT 11u

@@ -1,8 +1,6 @@
 /* Rings with price cards for the tests, and calls on copies of them. See cards.h. */
 #include "cards.h"
 
-#define NONE 255u
-
 const size_t card_lengths[LENGTHS] = {0, 1, 3, 4, 8448, 8451, 8452, 8453, 8454, 8455, 8456, 9000};
 const struct room exact = {RING_RECORD_BYTES, RING_CARDS_BYTES, RING_ANSWER_BYTES};
 

@@ -5,8 +5,6 @@
  */
 #include "buffers.h"
 
-#define NONE 255u
-
 /* How a ring is founded: no founder is named, or this one. */
 struct form {
     int named;

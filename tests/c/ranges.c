@@ -5,8 +5,6 @@
  */
 #include "buffers.h"
 
-#define NONE 255u
-
 /* Hub 0 with identifier b, whose pred has identifier a. */
 static void ranged(uint8_t *record, uint32_t a, uint32_t b)
 {

@@ -15,6 +15,11 @@ pub fn identifier(n: u32, hub: u32) -> u32 {
     ((u64::from(hub) << 32) / u64::from(n)) as u32 + 1000
 }
 
+/// The identifiers of n hubs.
+pub fn identifiers(n: u32) -> Vec<u32> {
+    (0..n).map(|hub| identifier(n, hub)).collect()
+}
+
 /// A record of n hubs that are inside and m messages, as bytes.
 ///
 /// All but those of a lone hub are reached from fresh by calls: the oldest
@@ -22,8 +27,7 @@ pub fn identifier(n: u32, hub: u32) -> u32 {
 /// sends on, the last one the only one of its link. Between them every fourth
 /// hub's wish to leave and questions of all other hubs alternate.
 pub fn record(n: u32, m: usize) -> Vec<u8> {
-    let identifiers: Vec<u32> = (0..n).map(|hub| identifier(n, hub)).collect();
-    let mut words = inside(&identifiers);
+    let mut words = inside(&identifiers(n));
     if n == 1 {
         lone(&mut words, m);
     } else {
@@ -35,14 +39,19 @@ pub fn record(n: u32, m: usize) -> Vec<u8> {
 }
 
 /// A record of n hubs that are inside, at rest, and that stand in any order on
-/// the circle; hub 0 keeps its place, since it founds.
+/// the circle.
 pub fn scattered(n: u32) -> Vec<u8> {
+    bytes(&inside(&shuffled(n)))
+}
+
+/// The same identifiers in any order; hub 0 keeps its own, since it founds.
+fn shuffled(n: u32) -> Vec<u32> {
     let mut generator = Generator::new(2026);
-    let mut identifiers: Vec<u32> = (0..n).map(|hub| identifier(n, hub)).collect();
+    let mut identifiers = identifiers(n);
     for hub in (2..n).rev() {
         identifiers.swap(hub as usize, 1 + generator.below(hub) as usize);
     }
-    bytes(&inside(&identifiers))
+    identifiers
 }
 
 fn bytes(words: &[u32]) -> Vec<u8> {
@@ -104,30 +113,24 @@ mod tests {
     use super::*;
     use ring_model::record::INSIDE;
 
-    fn state(record: &[u8]) -> State {
-        let word = |bytes: &[u8]| u32::from_le_bytes(bytes.try_into().expect("four bytes"));
-        let words: Vec<u32> = record.chunks_exact(4).map(word).collect();
-        State::read(&words).expect("the record reads")
-    }
-
-    /// In the order of their numbers: is each hub's succ the next one?
-    fn in_order(state: &State) -> usize {
+    /// How many hubs have the hub of the next number for their succ.
+    fn in_order(state: &State) -> u32 {
         let n = state.n();
         (0..n)
-            .filter(|&hub| state.row(hub).succ == (hub + 1) % n)
-            .count()
+            .map(|hub| u32::from(state.row(hub).succ == (hub + 1) % n))
+            .sum()
     }
 
     #[test]
     fn hubs_stand_in_order_or_in_any() {
         for n in [16, 64] {
-            let (ordered, any) = (state(&record(n, 0)), state(&scattered(n)));
-            for ring in [&ordered, &any] {
-                assert_eq!(ring.n(), n);
-                assert!((0..n).all(|hub| ring.row(hub).state == INSIDE));
-            }
-            assert_eq!(in_order(&ordered), n as usize);
-            assert!(in_order(&any) <= n as usize / 8);
+            let [ordered, any] = [identifiers(n), shuffled(n)].map(|list| {
+                let state = State::read(&inside(&list)).expect("the record reads");
+                assert!((0..n).all(|hub| state.row(hub).state == INSIDE));
+                in_order(&state)
+            });
+            assert_eq!(ordered, n);
+            assert!(any <= n / 8);
         }
     }
 }

@@ -6,7 +6,7 @@ use ring_model::record::State;
 use ring_model::RECORD_WORDS;
 
 use super::contestants::Call;
-use crate::records::identifier;
+use crate::records::{identifier, identifiers};
 
 const ASK: u32 = 0;
 const JOIN: u32 = 1;
@@ -65,7 +65,7 @@ impl Ring {
             words: vec![0; RECORD_WORDS],
             book: vec![0; CARD_SLICE_WORDS],
         };
-        let names: Vec<u32> = (0..n).map(|hub| identifier(n, hub)).collect();
+        let names = identifiers(n);
         fresh_cards(&mut ring.words, &mut ring.book, &names).expect("fresh is accepted");
         for hub in (1..n).filter(|&hub| !but_one || hub != n / 2) {
             ring.step(JOIN, hub, 0);
