@@ -5,7 +5,7 @@ use mathlib.Core.Bool.{Bool, true}
 use mathlib.Core.List.{List, [], _∷_, _++_, map, map-append}
 use Prim.Native.Nat.{ℕ, _+_, _≤_, _<_}
 use native.Mathlib.Omega.{arith}
-use lib.Dec.{T, leb, ltb, eqb, leb→le, ltb→lt, eqb→eq, T-not}
+use lib.Dec.{T, ltb, eqb, ltb→lt, eqb→eq, T-not}
 use lib.ListN.{set, length-set}
 use Rattle.clockwise.specs.Laws.{In}
 use Rattle.lists.specs.Basics.{require, Mem, times, ind}
@@ -15,12 +15,12 @@ use Rattle.lists.specs.Tests.{and-left, and-right, →eqb}
 use Rattle.protocol.specs.declared.Row.{Row}
 use Rattle.protocol.specs.declared.Answer.the-variants.{Quiet, Found}
 use Rattle.protocol.specs.declared.Decision.the-variants.{Send}
-use Rattle.protocol.specs.Names.{INSIDE, JOINING, LEAVING, OUTSIDE, WANTING-TO-LEAVE}
+use Rattle.protocol.specs.Names.{INSIDE, JOINING, OUTSIDE, WANTING-TO-LEAVE}
 use Rattle.protocol.specs.Record.{round, State, count, row}
-use Rattle.protocol.specs.Routing.{inRing}
 use Rattle.protocol.specs.Step as step
 use Rattle.protocol.specs.Step.{Result, refused, conclude, asking}
 use Rattle.protocol.specs.Membership.{mark}
+use Rattle.layout.specs.Preserved.{ring-states}
 use Rattle.atomicity.specs.Neighbours.{owner-of}
 use Rattle.atomicity.specs.Invariant.{Hubs, locking, Msg, erase, Linked, Inv}
 use Rattle.atomicity.specs.Invariant.{lookup, join, leaveReq}
@@ -28,12 +28,6 @@ use Rattle.atomicity.specs.OneStep.{no-join, apart-more}
 use Rattle.atomicity.specs.Roles.{outside-free}
 use Rattle.atomicity.specs.Calm.{Rewritten, points-row, fwd-same, Serves, calm, busy, sent as calm-sent}
 use Rattle.atomicity.specs.Good.{coreOf, hubs, rewritten, kept-names, waits, asks, total, total-append, Numbers, nums, Holds, Good, Fine, fine-accepted, fine-refused, onward-fine}
-
--- state 2 to 4
-pub ring-states : (h : Row) → T (inRing h) → (INSIDE ≤ h .state) × (h .state ≤ LEAVING)
-unfolding inRing
-ring-states h t =
-    (leb→le INSIDE (h .state) (and-left (leb INSIDE (h .state)) (leb (h .state) LEAVING) t), leb→le (h .state) LEAVING (and-right (leb INSIDE (h .state)) (leb (h .state) LEAVING) t))
 
 -- the rows
 module _ {n : ℕ} {id : ℕ → ℕ} {c : ℕ} {S S′ : Hubs} {ms : List Msg} (i : Inv n id c S [] ms) (ls : (h : ℕ) → S′ .led h ≡ S .led h) where

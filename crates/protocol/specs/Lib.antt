@@ -13,3 +13,4 @@ pub mod Frames
 pub mod Ringrun
 pub mod Bytes
 pub mod CardBytes
+pub mod Batch

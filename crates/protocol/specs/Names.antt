@@ -188,6 +188,14 @@ PRICE-DIFFERS = 23
 abbrev pub CARDS-FULL : ℕ
 CARDS-FULL = 24
 
+-- route: more than 64 numbers
+abbrev pub ROUTE-LONG : ℕ
+ROUTE-LONG = 25
+
+-- route: fewer places for outcomes than numbers
+abbrev pub PLACES-SHORT : ℕ
+PLACES-SHORT = 26
+
 -- a line of `ringrun` that is no frame, which prints EEFF: no call returns it
 abbrev pub UNREADABLE : ℕ
 UNREADABLE = 255

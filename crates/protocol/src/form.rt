@@ -34,3 +34,8 @@ pub const CARDS_AT: usize = 65;
 pub const CARD_WORDS: usize = 4;
 
 pub const MOST_CARDS: u32 = 512;
+
+// A route's questions (document 02, 2026-06): how many at most, and six words for the outcome of each. specs/Batch.antt has the same numbers.
+pub const MOST_QUESTIONS: usize = 64;
+
+pub const PLACE_WORDS: usize = 6;

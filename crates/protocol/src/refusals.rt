@@ -71,5 +71,11 @@ pub const PRICE_DIFFERS: u32 = 23;
 // Offer: a new machine, and 512 cards are kept.
 pub const CARDS_FULL: u32 = 24;
 
+// Route: more than 64 numbers.
+pub const ROUTE_LONG: u32 = 25;
+
+// Route: fewer places for outcomes than numbers.
+pub const PLACES_SHORT: u32 = 26;
+
 // A line of `ringrun` that is no frame: it prints EEFF. No call returns this number.
 pub const UNREADABLE: u32 = 255;

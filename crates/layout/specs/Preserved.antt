@@ -33,8 +33,13 @@ use Rattle.protocol.specs.Kinds as kinds
 use Rattle.protocol.specs.Kinds.{note, grown, lookupRouted, joinRouted, admitted, handle}
 use Rattle.protocol.specs.Step as step
 use Rattle.protocol.specs.Step.{Result, refused, accepted, conclude, room, asking, onLink, oldest, delivered}
 use Rattle.layout.specs.Form.{RowForm, MessageForm, Form, row-at}
-use Rattle.atomicity.specs.Commands.{ring-states}
+
+-- state 2 to 4
+pub ring-states : (h : Row) → T (inRing h) → (INSIDE ≤ h .state) × (h .state ≤ LEAVING)
+unfolding inRing
+ring-states h t =
+    (leb→le INSIDE (h .state) (and-left (leb INSIDE (h .state)) (leb (h .state) LEAVING) t), leb→le (h .state) LEAVING (and-right (leb INSIDE (h .state)) (leb (h .state) LEAVING) t))
 
 pub responsible-states : (h : Row) → T (responsible h) → (INSIDE ≤ h .state) × (h .state ≤ WANTING-TO-LEAVE)
 unfolding responsible
