@@ -16,7 +16,7 @@ use Rattle.lists.specs.Choice.{choose, tested}
 use Rattle.lists.specs.Members.{mem-at, mem-split, mem-set}
 use Rattle.lists.specs.Search.{Missed, search-ends}
 use Rattle.lists.specs.Search.{Located}
-use Rattle.lists.specs.Tests.{and-left, and-right, →eqb, true-T, Distinct}
+use Rattle.lists.specs.Tests.{and-left, and-right, →eqb, T-true, true-T, Distinct}
 use Rattle.protocol.specs.declared.Row.{Row}
 use Rattle.protocol.specs.declared.Message.{Message}
 use Rattle.protocol.specs.declared.Answer.{Answer}
@@ -25,7 +25,7 @@ use Rattle.protocol.specs.declared.Route.the-variants.{Own, To}
 use Rattle.protocol.specs.declared.Decision.{Decision}
 use Rattle.protocol.specs.declared.Decision.the-variants.{Refuse, Reply, Send}
 use Rattle.protocol.specs.Names.{INSIDE, JOINING, LEAVING, NO-OPERATION, NOT-EXPECTED, OUTSIDE, WANTING-TO-LEAVE, JOIN, JOINRETRY, JOINPOINT, NEWSUCC, NEWSUCCACK, JOINDONE, LEAVEREQ, LEAVERETRY, LEAVEGRANT, LEAVEPOINT, UPDATESUCC, STOPFORWARD, LEAVEDONE, LOOKUP}
-use Rattle.protocol.specs.Record.{mostNodes, mostMessages, none, State, count, row, identifier, message, noMessage, outside, withRow, sent, withoutMessage, ticketed}
+use Rattle.protocol.specs.Record.{mostNodes, mostMessages, recordSize, none, State, count, row, identifier, message, noMessage, outside, read, words, withRow, sent, withoutMessage, ticketed}
 use Rattle.protocol.specs.WellFormed.{namesNode}
 use Rattle.protocol.specs.Fresh.{alone, foundedBy, fresh}
 use Rattle.protocol.specs.Routing.{inRing, responsible, onward, route}
@@ -33,7 +33,9 @@ use Rattle.protocol.specs.Kinds as kinds
 use Rattle.protocol.specs.Kinds.{note, grown, lookupRouted, joinRouted, admitted, handle}
 use Rattle.protocol.specs.Step as step
 use Rattle.protocol.specs.Step.{Result, refused, accepted, conclude, room, asking, onLink, oldest, delivered}
-use Rattle.layout.specs.Form.{RowForm, MessageForm, Form, row-at}
+use Rattle.protocol.specs.Calls.{Called, turnedDown, written, stepCall}
+use Rattle.layout.specs.Form.{RowForm, MessageForm, Form, row-at, well-formed-words, long-words, Valid, valid, valid-form}
+use Rattle.layout.specs.Questions.{record-rest}
 
 -- state 2 to 4
 pub ring-states : (h : Row) → T (inRing h) → (INSIDE ≤ h .state) × (h .state ≤ LEAVING)
@@ -544,6 +546,19 @@ module _ (s : State) (f : Form s) where
   step-form operation x y =
       choose Leaves _ _ _ (λ _. ask-form x y) (λ _. choose Leaves _ _ _ (λ _. join-form x y) (λ _. choose Leaves _ _ _ (λ _. leave-form x)
       (λ _. choose Leaves _ _ _ (λ _. deliver-form x y) (λ _. leaves-refused NO-OPERATION))))
+
+-- The same of words: a step leaves a valid record valid, also where it is refused.
+pub step-valid : (w : List ℕ) → Valid w → (operation x y : ℕ) → Valid (stepCall w operation x y .slice)
+unfolding stepCall written
+step-valid w v operation x y =
+    subst (λ (c : Called). Valid (c .slice)) (sym (record-rest w (turnedDown w) _ (v .long) (v .formed)))
+    (go (step.step (read w) operation x y) (step-form (read w) (valid-form w v) operation x y))
+  where
+    go : (r : Result) → Leaves r → Valid (written w r .slice)
+    go (refused k) l = v
+    go (accepted a s) l =
+        let f = leaves-form a s l in
+        valid (words s ++ drop recordSize w) (long-words s (drop recordSize w) f) (T-true _ (well-formed-words s (drop recordSize w) f))
 
 -- A fresh ring is well formed.
 module _ (ids : List ℕ) where

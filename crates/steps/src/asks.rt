@@ -42,7 +42,8 @@ fn asking(w: &mut [u32], x: u32, v: u32, way: Route) -> Outcome
     }
 }
 
-pub(crate) fn ask(w: &mut [u32], x: u32, v: u32) -> Outcome
+// On a record that has passed questions 1 and 2.
+pub fn ask(w: &mut [u32], x: u32, v: u32) -> Outcome
     requires { ⌜ Valid (now w) ⌝ }
     ensures { λ r. ⌜ written (now (w .entry)) (askSpec (read (now (w .entry))) x v) ≡ record { outcome = r; slice = now (w .exit) } ⌝ }
 {

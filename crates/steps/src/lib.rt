@@ -4,5 +4,6 @@ mod asks;
 mod commands;
 mod perform;
 
+pub use asks::ask;
 pub use perform::run;
 pub use perform::step;
