@@ -24,7 +24,7 @@ use Rattle.protocol.specs.Calls.{Called, turnedDown, written, stepCall}
 use Rattle.protocol.specs.Batch.{Asked, inFront, askEach, placeSize, placeWords, mostQuestions, fitting, onBatch, batchWritten}
 use Rattle.layout.specs.Form.{Valid}
 use Rattle.layout.specs.Questions.{record-1, record-2, record-rest}
-use Rattle.layout.specs.Preserved.{step-valid}
+use Rattle.layout.specs.Preserved.{Again, step-valid}
 
 -- the outcomes are as many as the numbers
 pub length-asked : (w : List ℕ) (hub : ℕ) (numbers : List ℕ) → length (askEach w hub numbers .outcomes) ≡ length numbers
@@ -47,10 +47,13 @@ pub ask-valid : (w : List ℕ) → Valid w → (hub v : ℕ) → stepCall w 0 hu
 unfolding stepCall step if_then_else_
 ask-valid w v hub number = record-rest w (turnedDown w) _ (v .long) (v .formed)
 
-pub each-valid : (w : List ℕ) → Valid w → (hub : ℕ) (numbers : List ℕ) → Valid (askEach w hub numbers .slice)
+pub each-valid : (w : List ℕ) → Valid w → (hub : ℕ) (numbers : List ℕ) → Again w (askEach w hub numbers .slice)
 unfolding askEach
-each-valid w v hub [] = v
-each-valid w v hub (u ∷ numbers) = each-valid (stepCall w 0 hub u .slice) (step-valid w v 0 hub u) hub numbers
+each-valid w v hub [] = record { valid = v; length = refl }
+each-valid w v hub (u ∷ numbers) =
+    let k = step-valid w v 0 hub u in
+    let r = each-valid (stepCall w 0 hub u .slice) (k .valid) hub numbers in
+    record { valid = r .valid; length = r .length ∙ k .length }
 
 -- a place has six words
 pub place-size : (o : Outcome) → length (placeWords o) ≡ placeSize
@@ -114,7 +117,7 @@ module _ (w : List ℕ) (v : Valid w) (hub : ℕ) (numbers : List ℕ) (i : ℕ)
 
   asked : stepCall (so .slice) 0 hub (getD numbers i 0) ≡ c
   asked =
-      ask-valid (so .slice) (each-valid w v hub (take i numbers)) hub (getD numbers i 0)
+      ask-valid (so .slice) (each-valid w v hub (take i numbers) .valid) hub (getD numbers i 0)
       ∙ ap (λ y. written y (ask (read y) hub (getD numbers i 0))) (sym e) ∙ said
 
   next : upTo w hub numbers (i + 1) ≡ behind so c

@@ -34,6 +34,7 @@ use Rattle.protocol.specs.Kinds.{note, grown, lookupRouted, joinRouted, admitte
 use Rattle.protocol.specs.Step as step
 use Rattle.protocol.specs.Step.{Result, refused, accepted, conclude, room, asking, onLink, oldest, delivered}
 use Rattle.protocol.specs.Calls.{Called, turnedDown, written, stepCall}
+use Rattle.layout.specs.Words.{length-words}
 use Rattle.layout.specs.Form.{RowForm, MessageForm, Form, row-at, well-formed-words, long-words, Valid, valid, valid-form}
 use Rattle.layout.specs.Questions.{record-rest}
 
@@ -547,18 +548,26 @@ module _ (s : State) (f : Form s) where
       choose Leaves _ _ _ (λ _. ask-form x y) (λ _. choose Leaves _ _ _ (λ _. join-form x y) (λ _. choose Leaves _ _ _ (λ _. leave-form x)
       (λ _. choose Leaves _ _ _ (λ _. deliver-form x y) (λ _. leaves-refused NO-OPERATION))))
 
--- The same of words: a step leaves a valid record valid, also where it is refused.
-pub step-valid : (w : List ℕ) → Valid w → (operation x y : ℕ) → Valid (stepCall w operation x y .slice)
+-- The same of words: a step leaves a valid record valid, also where it is refused, and as long as it was.
+pub record Again (w z : List ℕ) : Type 0 where
+  pub valid : Valid z
+  pub length : length z ≡ length w
+
+pub step-valid : (w : List ℕ) → Valid w → (operation x y : ℕ) → Again w (stepCall w operation x y .slice)
 unfolding stepCall written
 step-valid w v operation x y =
-    subst (λ (c : Called). Valid (c .slice)) (sym (record-rest w (turnedDown w) _ (v .long) (v .formed)))
+    subst (λ (c : Called). Again w (c .slice)) (sym (record-rest w (turnedDown w) _ (v .long) (v .formed)))
     (go (step.step (read w) operation x y) (step-form (read w) (valid-form w v) operation x y))
   where
-    go : (r : Result) → Leaves r → Valid (written w r .slice)
-    go (refused k) l = v
+    go : (r : Result) → Leaves r → Again w (written w r .slice)
+    go (refused k) l = record { valid = v; length = refl }
     go (accepted a s) l =
         let f = leaves-form a s l in
-        valid (words s ++ drop recordSize w) (long-words s (drop recordSize w) f) (T-true _ (well-formed-words s (drop recordSize w) f))
+        let t = drop recordSize w in
+        record {
+          valid = valid (words s ++ t) (long-words s t f) (T-true _ (well-formed-words s t f));
+          length = length-append (words s) t ∙ omega (arith, length-words s t (f .few) (f .short), length-drop recordSize w, v .long);
+        }
 
 -- A fresh ring is well formed.
 module _ (ids : List ℕ) where

@@ -16,6 +16,7 @@ use word_bytes::loaded;
 ghost use mathlib.Core.Path.{_≡_};
 ghost use Rattle.protocol.specs.Bytes.{stepBytes, ownerBytes, freshBytes, freshByBytes};
 ghost use Rattle.protocol.specs.CardBytes.{stepCardsBytes, offerBytes, freshCardsBytes, freshByCardsBytes};
+ghost use Rattle.protocol.specs.Batch.{batchBytes};
 ghost use Rattle.ring_c.specs.Told.{sheetRead, sheetWrite};
 
 // One command on the record in the lent bytes. Only the record is loaded, since a step looks at nothing behind it.
@@ -114,6 +115,19 @@ pub extern "C" fn ring_fresh_by_cards(
     ensures { λ r. ⌜ freshByCardsBytes (now (words .entry)) (now (book .entry)) (now (identifiers .entry)) founder ≡ record { code = r; bytes = now (words .exit); book = now (book .exit) } ⌝ }
 {
     card_bytes::fresh_by(words, book, identifiers, founder)
+}
+
+// The questions of a route asked at one node, on the record in the lent bytes; an outcome of six words for each.
+#[no_mangle]
+pub extern "C" fn ring_route(
+    words: &mut [u8],
+    node: u32,
+    numbers: &[u8],
+    outcomes: &mut [u8],
+) -> u32
+    ensures { λ r. ⌜ batchBytes (now (words .entry)) node (now (numbers .entry)) (now (outcomes .entry)) ≡ record { code = r; bytes = now (words .exit); output = now (outcomes .exit) } ⌝ }
+{
+    batch_bytes::ask(words, node, numbers, outcomes)
 }
 
 // Two counts of eight bytes.

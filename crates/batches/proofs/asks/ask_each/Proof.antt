@@ -34,7 +34,7 @@ ask-requires c κs =
     let l = c .before .before .before .loop in
     let start = c .before .before .before .before .before .before .before in
     let a = start .args in
-    subst Valid (sym (l .inv .1)) (each-valid (a .w .now) (start .pre .0) (a .node) (take (l .i) (a .numbers .now)))
+    subst Valid (sym (l .inv .1)) (each-valid (a .w .now) (start .pre .0) (a .node) (take (l .i) (a .numbers .now)) .valid)
 
 place-words-requires : tie.Need-place-words-requires Inv-loop μ-loop
 place-words-requires c κs = search needs
