@@ -31,12 +31,16 @@ extern "C" {
 #define RING_OWNER_BYTES 4u     /* the owner query's answer: the least that `out` must have */
 #define RING_COUNTS_BYTES 16u   /* the counts of a sheet read or written: the least that `counts` must have */
 #define RING_CARDS_BYTES 8452u  /* a card slice: the least that `cards` must have */
+#define RING_PLACE_BYTES 24u    /* the outcome of one question of a route: `outcomes` must have so many for each number */
 
 /* The most hubs: the most identifiers, of four bytes each, that found a ring. */
 #define RING_MOST_HUBS 64u
 
 /* The most cards that a card slice keeps. */
 #define RING_MOST_CARDS 512u
+
+/* The most numbers that a route asks in one call. */
+#define RING_MOST_QUESTIONS 64u
 
 /* What a call returns. The numbers are those of the ring's documents; no call of this header returns 16, the roll call's. */
 enum ring_code {
@@ -64,7 +68,9 @@ enum ring_code {
     RING_ROOM_SHORT = 21,     /* sheet: an output is too short for what is to be written */
     RING_REVISION_LOWER = 22, /* offer: the machine's card has a higher revision */
     RING_PRICE_DIFFERS = 23,  /* offer: the machine's card has this revision, and another price */
-    RING_CARDS_FULL = 24      /* offer: a new machine, and RING_MOST_CARDS cards are kept */
+    RING_CARDS_FULL = 24,     /* offer: a new machine, and RING_MOST_CARDS cards are kept */
+    RING_ROUTE_LONG = 25,     /* route: more than RING_MOST_QUESTIONS numbers */
+    RING_PLACES_SHORT = 26    /* route: fewer places for outcomes than numbers */
 };
 
 /* A hub's state: the second of the seven words of its row, which begins at byte 16 + 28 times the hub's number of the record. */
@@ -126,6 +132,23 @@ uint32_t ring_fresh_by(uint8_t *words, size_t words_len, const uint8_t *identifi
  * Returns RING_OK, RING_OUTPUT_SHORT, or a refusal from 1 to 12.
  */
 uint32_t ring_step(uint8_t *words, size_t words_len, uint32_t operation, uint32_t x, uint32_t y, uint8_t *out, size_t out_len);
+
+/*
+ * ring_route - the questions of a driver's route in one call: each number is asked at the hub, as ring_step with RING_ASK asks it, in the order of
+ * the list. Outcomes and record are those of asking one by one; the record is tested once, so that many questions cost little more than one.
+ *
+ *   words, words_len        the record; length in bytes
+ *   hub                     the hub that is asked: where it is none, or outside, each outcome says so
+ *   numbers, numbers_len    at most RING_MOST_QUESTIONS numbers, four bytes each, lowest first; length in bytes
+ *   outcomes, outcomes_len  gets RING_PLACE_BYTES bytes for each number: a word for the refusal, RING_OK for none (or 4, 5, 11 or 12), and
+ *                           the answer's five words, all 0 on a refusal. What lies behind them stays as it is
+ *
+ * A question that is refused does not end the call: those behind it are asked. Price cards need not be lent, since a question moves none.
+ *
+ * Returns RING_OK, RING_RECORD_SHORT, RING_NOT_WELL_FORMED, RING_ROUTE_LONG or RING_PLACES_SHORT, in this order.
+ */
+uint32_t ring_route(uint8_t *words, size_t words_len, uint32_t hub, const uint8_t *numbers, size_t numbers_len, uint8_t *outcomes,
+                    size_t outcomes_len);
 
 /*
  * ring_owner - the hub that holds a machine number; the lowest hub number if several do.

@@ -67,7 +67,7 @@ fn reason(out: &mut [u8], at: usize, k: u32) -> usize {
     name(
         out,
         at,
-        b",record short,not well formed,no operation,no hub,not in ring,not outside,locked,last hub,no message,not expected,messages full,tickets used up,identifier count,identifier twice,no holder,no way round,output short,no founder,no sheet,identifier too large,room short,revision lower,price differs,cards full",
+        b",record short,not well formed,no operation,no hub,not in ring,not outside,locked,last hub,no message,not expected,messages full,tickets used up,identifier count,identifier twice,no holder,no way round,output short,no founder,no sheet,identifier too large,room short,revision lower,price differs,cards full,route long,places short",
         k,
     )
 }
