@@ -59,7 +59,7 @@ fn count_at(k: u32, j: u32, n: u64) -> u64
 }
 
 // The tally with the count in place k raised.
-fn raised_at(k: u32, t: Tally) -> Tally
+pub fn raised_at(k: u32, t: Tally) -> Tally
     ensures { λ r. ⌜ r ≡ raisedAt k t ⌝ }
 {
     Tally {

@@ -4,6 +4,7 @@ mod lending;
 mod perform;
 
 pub use counts::counted;
+pub use counts::raised_at;
 pub use lending::Tallied;
 pub use lending::lend;
 pub use perform::step;

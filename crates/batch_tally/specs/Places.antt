@@ -1,0 +1,202 @@
+-- The questions of a batch counted by their places: that this is counting them one by one. Assumes nothing.
+use mathlib.Core.Path.{_≡_, refl, ap, sym, _∙_, subst}
+use mathlib.Core.Bool.{Bool, true, false}
+use mathlib.Core.List.{List, [], _∷_, _++_, append-assoc}
+use Prim.Native.Nat.{ℕ, zero, suc, _+_, _*_, _/_, _≤_, _<_}
+use native.Mathlib.Omega.{arith}
+use native.Mathlib.Numerals.{add-one}
+use lib.Dec.{T, leb, eqb, leb→le}
+use lib.ListN.{length, take, drop, getD}
+use lib.Seq.{take-suc, take-length, getD-at, getD-append-add}
+use borrow.Author.Tests.{ne-eqb}
+use Rattle.lists.specs.Basics.{if_then_else_, require, flat, All}
+use Rattle.lists.specs.Choice.{tested}
+use Rattle.lists.specs.Members.{all-mem, mem-at}
+use Rattle.lists.specs.Blocks.{flat-split, length-front}
+use Rattle.protocol.specs.declared.Answer.{Answer}
+use Rattle.protocol.specs.declared.Answer.the-variants.{Quiet, Found, Entered, Gone, JoinTurnedAway, LeaveTurnedAway, Joined, Left}
+use Rattle.protocol.specs.declared.Outcome.{Outcome}
+use Rattle.protocol.specs.declared.Outcome.the-variants.{Refused, Answered}
+use Rattle.protocol.specs.declared.Route.{Route}
+use Rattle.protocol.specs.declared.Route.the-variants.{Own, To}
+use Rattle.protocol.specs.declared.Tally.{Tally}
+use Rattle.protocol.specs.Names.{NOT-WELL-FORMED, PLACES-SHORT, RECORD-SHORT, REFUSAL, ROUTE-LONG}
+use Rattle.protocol.specs.Record.{State, row, identifier, read}
+use Rattle.protocol.specs.WellFormed.{wellFormed}
+use Rattle.protocol.specs.Routing.{onward}
+use Rattle.protocol.specs.Step.{Result, refused, accepted, asking, ask, step}
+use Rattle.protocol.specs.Answers.{answerWords, kindOf, countOf, raisedAt, counted}
+use Rattle.protocol.specs.Calls.{Called, long, onRecord, written, stepCall}
+use Rattle.protocol.specs.Batch.{askEach, placeSize, placeWords, mostQuestions, fitting, onBatch, BatchCalled, unasked, batchWritten, batchCall, batchOutcomes, countedAll}
+use Rattle.batches.specs.Each.{length-asked, place-size}
+
+-- The count that a place raises, from its first word on: its refusal, then its answer's kind.
+unfoldable pub countAt : List ℕ → ℕ → ℕ
+countAt o at = if eqb (getD o at 0) 0 then getD o (at + 1) 0 else REFUSAL
+
+-- The tally after the first n places.
+unfoldable pub countedPlaces : Tally → List ℕ → ℕ → Tally
+countedPlaces t o zero = t
+countedPlaces t o (suc n) = raisedAt (countAt o (placeSize * n)) (countedPlaces t o n)
+
+pub counted-none : (t : Tally) (o : List ℕ) → t ≡ countedPlaces t o 0
+unfolding countedPlaces
+counted-none t o = refl
+
+pub counted-next : (t : Tally) (o : List ℕ) (i : ℕ) → raisedAt (countAt o (placeSize * i)) (countedPlaces t o i) ≡ countedPlaces t o (i + 1)
+unfolding countedPlaces
+counted-next t o i = ap (countedPlaces t o) (sym (add-one i))
+
+-- A place tells a refusal from an answer, where no refusal has the number 0.
+Told : Outcome → Type 0
+Told (Refused k) = 0 < k
+Told (Answered a) = Unit {0}
+
+kind-first : (a : Answer) (rest : List ℕ) → getD (answerWords a ++ rest) 0 0 ≡ kindOf a
+unfolding answerWords kindOf
+kind-first Quiet rest = refl
+kind-first (Found hub number ticket hops) rest = refl
+kind-first (Entered hub) rest = refl
+kind-first (Gone hub) rest = refl
+kind-first (JoinTurnedAway hub) rest = refl
+kind-first (LeaveTurnedAway hub) rest = refl
+kind-first (Joined hub) rest = refl
+kind-first (Left hub) rest = refl
+
+place-counts : (o : Outcome) → Told o → (p rest : List ℕ) (at : ℕ) → length p ≡ at → countAt (p ++ (placeWords o ++ rest)) at ≡ countOf o
+unfolding countAt countOf placeWords Told if_then_else_
+place-counts (Refused k) l p rest at e =
+    let q : List ℕ = 0 ∷ 0 ∷ 0 ∷ 0 ∷ 0 ∷ rest in
+    ap (λ z. if eqb z 0 then getD (p ++ (k ∷ q)) (at + 1) 0 else REFUSAL) (getD-at p k q 0 at e)
+    ∙ ap (λ z. if z then getD (p ++ (k ∷ q)) (at + 1) 0 else REFUSAL) (ne-eqb k 0 (λ z. omega arith))
+place-counts (Answered a) l p rest at e =
+    let q : List ℕ = answerWords a ++ rest in
+    ap (λ z. if eqb z 0 then getD (p ++ (0 ∷ q)) (at + 1) 0 else REFUSAL) (getD-at p 0 q 0 at e)
+    ∙ ap (λ z. getD (p ++ (0 ∷ q)) (z + 1) 0) (sym e) ∙ getD-append-add p (0 ∷ q) 1 0 ∙ kind-first a rest
+
+-- one question more, at the end
+counted-last : (t : Tally) (outcomes : List Outcome) (o : Outcome) → countedAll t (outcomes ++ (o ∷ [])) ≡ counted (countedAll t outcomes) o
+unfolding countedAll
+counted-last t [] o = refl
+counted-last t (x ∷ outcomes) o = counted-last (counted t x) outcomes o
+
+-- The places of these outcomes, counted, are the outcomes counted.
+module _ (t : Tally) (outcomes : List Outcome) (told : All Told outcomes) (rest : List ℕ) where
+  abbrev o : List ℕ
+  o = flat placeWords outcomes ++ rest
+
+  none : Outcome
+  none = Answered Quiet
+
+  at-place : (i : ℕ) → i < length outcomes → countAt o (placeSize * i) ≡ countOf (getD outcomes i none)
+  at-place i l =
+      ap (λ z. countAt (z ++ rest) (placeSize * i)) (flat-split placeWords outcomes i none l)
+      ∙ ap (λ z. countAt z (placeSize * i))
+      (append-assoc (flat placeWords (take i outcomes)) (placeWords (getD outcomes i none) ++ flat placeWords (drop (suc i) outcomes)) rest
+      ∙ ap (λ z. flat placeWords (take i outcomes) ++ z) (append-assoc (placeWords (getD outcomes i none)) (flat placeWords (drop (suc i) outcomes)) rest))
+      ∙ place-counts (getD outcomes i none) (all-mem Told outcomes told (getD outcomes i none) (mem-at outcomes i none l)) (flat placeWords (take i outcomes)) (flat placeWords (drop (suc i) outcomes) ++ rest) (placeSize * i)
+      (length-front placeWords placeSize place-size outcomes i (omega arith))
+
+  up-to : (i : ℕ) → i ≤ length outcomes → countedPlaces t o i ≡ countedAll t (take i outcomes)
+  unfolding countedPlaces countedAll counted
+  up-to zero l = refl
+  up-to (suc i) l =
+      ap (λ z. raisedAt z (countedPlaces t o i)) (at-place i (omega arith))
+      ∙ ap (raisedAt (countOf (getD outcomes i none))) (up-to i (omega arith))
+      ∙ sym (counted-last t (take i outcomes) (getD outcomes i none))
+      ∙ ap (countedAll t) (sym (take-suc outcomes i none (omega arith)))
+
+  places-counted : countedPlaces t o (length outcomes) ≡ countedAll t outcomes
+  places-counted = up-to (length outcomes) (omega arith) ∙ ap (countedAll t) (take-length outcomes)
+
+-- A question's refusal has a number above 0.
+ask-told : (w : List ℕ) (hub v : ℕ) → Told (stepCall w 0 hub v .outcome)
+unfolding stepCall onRecord written step ask asking Told if_then_else_
+ask-told w hub v =
+    tested Good _ _ _ (omega arith) (λ _. tested Good _ _ _ (omega arith) (λ _. result (ask (read w) hub v)
+    (tested Fair _ _ _ (omega arith) (λ _. tested Fair _ _ _ (omega arith) (λ _. tested Fair _ _ _ (omega arith) (λ _. routed (onward (identifier (read w) (row (read w) hub .pred)) (row (read w) hub) v)))))))
+  where
+    Good : Called → Type 0
+    Good c = Told (c .outcome)
+
+    Fair : Result → Type 0
+    Fair (refused k) = 0 < k
+    Fair (accepted a s) = Unit {0}
+
+    routed : (z : Route) → Fair (asking (read w) hub v z)
+    routed Own = tt
+    routed (To z) = tested Fair _ _ _ (omega arith) (λ _. tt)
+
+    result : (r : Result) → Fair r → Good (written w r)
+    result (refused k) l = l
+    result (accepted a s) l = tt
+
+each-told : (w : List ℕ) (hub : ℕ) (numbers : List ℕ) → All Told (askEach w hub numbers .outcomes)
+unfolding askEach
+each-told w hub [] = tt
+each-told w hub (v ∷ numbers) = (ask-told w hub v, each-told (stepCall w 0 hub v .slice) hub numbers)
+
+each-counted : (t : Tally) (w : List ℕ) (hub : ℕ) (numbers rest : List ℕ)
+    → countedPlaces t (flat placeWords (askEach w hub numbers .outcomes) ++ rest) (length numbers) ≡ countedAll t (askEach w hub numbers .outcomes)
+each-counted t w hub numbers rest =
+    ap (countedPlaces t (flat placeWords (askEach w hub numbers .outcomes) ++ rest)) (sym (length-asked w hub numbers))
+    ∙ places-counted t (askEach w hub numbers .outcomes) (each-told w hub numbers) rest
+
+-- a refusal is no answer
+apart : {k : ℕ} {a : Answer} → Refused k ≡ Answered a → ⊥
+apart e = subst Refusal e tt
+  where
+    Refusal : Outcome → Type 0
+    Refusal (Refused k) = Unit {0}
+    Refusal (Answered a) = ⊥
+
+-- What the call says of its tally, refused or not: by its four tests.
+module _ (w : List ℕ) (hub : ℕ) (numbers out : List ℕ) where
+  abbrev all : BatchCalled
+  all = batchWritten numbers out (askEach w hub numbers)
+
+  four : {A : Type 0} → (ℕ → A) → A → Bool → Bool → Bool → Bool → A
+  four no-result rest b c d e =
+      require b (no-result RECORD-SHORT) (require c (no-result NOT-WELL-FORMED) (require d (no-result ROUTE-LONG) (require e (no-result PLACES-SHORT) rest)))
+
+  abbrev outcomesAt : Bool → Bool → Bool → Bool → List Outcome
+  outcomesAt = four (λ k. []) (askEach w hub numbers .outcomes)
+
+  abbrev callAt : Bool → Bool → Bool → Bool → BatchCalled
+  callAt = four (unasked w out) all
+
+  pub refused-counts : (k : ℕ) (z o : List ℕ) → batchCall w hub numbers out ≡ record { outcome = Refused k; slice = z; output = o }
+      → (t : Tally) → t ≡ countedAll t (batchOutcomes w hub numbers out)
+  unfolding batchCall batchOutcomes batchWritten onBatch onRecord fitting four countedAll require if_then_else_
+  refused-counts k z o e t =
+      ap (countedAll t) (sym (go (long w) (wellFormed w) (leb (length numbers) mostQuestions) (leb (length numbers) (length out / placeSize)) (ap (λ (c : BatchCalled). c .outcome) e)))
+    where
+      go : (b c d e : Bool) → callAt b c d e .outcome ≡ Refused k → outcomesAt b c d e ≡ []
+      go true true true true p = absurd (apart (sym p))
+      go true true true false p = refl
+      go true true false e p = refl
+      go true false d e p = refl
+      go false c d e p = refl
+
+  pub record Counted (o : List ℕ) : Type 0 where
+    pub room : placeSize * length numbers ≤ length out
+    pub tally : (t : Tally) → countedPlaces t o (length numbers) ≡ countedAll t (batchOutcomes w hub numbers out)
+
+  pub answered-counts : (a : Answer) (z o : List ℕ) → batchCall w hub numbers out ≡ record { outcome = Answered a; slice = z; output = o } → Counted o
+  unfolding batchCall batchOutcomes batchWritten onBatch onRecord fitting four require if_then_else_
+  answered-counts a z o e =
+      let r = go (long w) (wellFormed w) (leb (length numbers) mostQuestions) (leb (length numbers) (length out / placeSize)) (ap (λ (c : BatchCalled). c .outcome) e) in
+      let l = leb→le (length numbers) (length out / placeSize) (r .2) in
+      record {
+        room = omega arith;
+        tally = λ t.
+            ap (λ (c : BatchCalled). countedPlaces t (c .output) (length numbers)) (sym e ∙ r .1)
+            ∙ each-counted t w hub numbers (drop (placeSize * length numbers) out) ∙ ap (countedAll t) (sym (r .0));
+      }
+    where
+      go : (b c d e : Bool) → callAt b c d e .outcome ≡ Answered a → (outcomesAt b c d e ≡ askEach w hub numbers .outcomes) × (callAt b c d e ≡ all) × T e
+      go true true true true p = (refl, refl, tt)
+      go true true true false p = absurd (apart p)
+      go true true false e p = absurd (apart p)
+      go true false d e p = absurd (apart p)
+      go false c d e p = absurd (apart p)
