@@ -37,8 +37,7 @@ loop-again : tie.Need-loop-again Inv-loop μ-loop
 loop-again c =
     let l = c .before .before .before .loop in
     let a = c .before .before .before .before .before .args in
-    let o = a .outcomes .now in
-    (
+    let o = a .outcomes .now in (
       omega arith,
       c .raised-at .ensures ∙ ap (λ k. raisedAt k (l .kept)) (c .before .count-at .ensures) ∙ ap (raisedAt (countAt o (placeSize * l .i))) (l .inv .1) ∙ counted-next (a .t) o (l .i),
     )
