@@ -20,7 +20,7 @@ use Rattle.protocol.specs.Record.{round, State, count, row}
 use Rattle.protocol.specs.Step as step
 use Rattle.protocol.specs.Step.{Result, refused, conclude, asking}
 use Rattle.protocol.specs.Membership.{mark}
-use Rattle.layout.specs.Preserved.{ring-states}
+use Rattle.layout.specs.Asks.{ring-states}
 use Rattle.atomicity.specs.Neighbours.{owner-of}
 use Rattle.atomicity.specs.Invariant.{Hubs, locking, Msg, erase, Linked, Inv}
 use Rattle.atomicity.specs.Invariant.{lookup, join, leaveReq}

@@ -19,7 +19,8 @@ use Rattle.protocol.specs.Calls.{Called, long, onRecord, written, turnedDown, s
 use Rattle.layout.specs.Words.{read-words, drop-words}
 use Rattle.layout.specs.Form.{Form, well-formed-words, long-words}
 use Rattle.layout.specs.Questions.{fresh-cases}
-use Rattle.layout.specs.Preserved.{Leaves, leaves-form, step-form}
+use Rattle.layout.specs.Asks.{Leaves, leaves-form}
+use Rattle.atomicity.specs.Preserved.{step-form}
 use Rattle.atomicity.specs.Demand3.{Call, Engine, present, called}
 
 answered-is : Outcome → Type 0

@@ -26,7 +26,7 @@ use Rattle.protocol.specs.Step.{Result, refused, accepted, asking}
 use Rattle.protocol.specs.Calls.{Called, written, freshCall, freshByCall}
 use Rattle.layout.specs.Founder.{smallest-least}
 use Rattle.layout.specs.Questions.{fresh-cases, long-yes}
-use Rattle.layout.specs.Preserved.{fresh-form, length-founded}
+use Rattle.atomicity.specs.Preserved.{fresh-form, length-founded}
 use Rattle.atomicity.specs.Run.{founder-row, other-row}
 use Rattle.atomicity.specs.Demand3.{Call, present, called}
 use Rattle.atomicity.specs.Engines.{Begun, refused-answered, call-is, present-begins}

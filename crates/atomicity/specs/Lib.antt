@@ -11,6 +11,7 @@ pub mod Moves
 pub mod Good
 pub mod Deliver
 pub mod Commands
+pub mod Preserved
 pub mod Demand3
 pub mod Engines
 pub mod Run

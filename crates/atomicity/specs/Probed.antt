@@ -25,7 +25,8 @@ use Rattle.protocol.specs.Frames.{isDigit, digitValue, read2, read4, read8, fou
 use Rattle.protocol.specs.Ringrun.{linesOf, textOf, answers, ringrun}
 use Rattle.layout.specs.Words.{drop-words}
 use Rattle.layout.specs.Form.{Form}
-use Rattle.layout.specs.Preserved.{Leaves, leaves-form, step-form, fresh-form}
+use Rattle.layout.specs.Asks.{Leaves, leaves-form}
+use Rattle.atomicity.specs.Preserved.{step-form, fresh-form}
 use Rattle.atomicity.specs.Demand3.{Call, present, called}
 use Rattle.atomicity.specs.Record.{fresh-gives}
 use Rattle.atomicity.specs.Engines.{call-is}

@@ -22,7 +22,8 @@ use Rattle.protocol.specs.Calls.{Called, long, onRecord, written, turnedDown, s
 use Rattle.layout.specs.Words.{words-read, drop-words, length-words}
 use Rattle.layout.specs.Form.{tidy, form-of, well-formed-words}
 use Rattle.layout.specs.Questions.{fresh-cases, fresh-founds}
-use Rattle.layout.specs.Preserved.{Leaves, leaves-form, leaves-accepted, step-form, fresh-form}
+use Rattle.layout.specs.Asks.{Leaves, leaves-form, leaves-accepted}
+use Rattle.atomicity.specs.Preserved.{step-form, fresh-form}
 
 -- What a call may do to the words: keep them all, or leave a well-formed record with the later words as they were.
 pub record Kept (w v : List ℕ) : Type 0 where

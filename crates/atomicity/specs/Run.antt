@@ -23,7 +23,6 @@ use Rattle.protocol.specs.Kinds.{handle}
 use Rattle.protocol.specs.Step as step
 use Rattle.protocol.specs.Step.{Result, refused, accepted, conclude, onLink, oldest, delivered}
 use Rattle.protocol.specs.Membership.{foundingMembers, mark}
-use Rattle.layout.specs.Preserved.{founder-name, length-founded}
 use Rattle.atomicity.specs.Members.{mark-head, mark-tail}
 use Rattle.atomicity.specs.Neighbours.{PredL}
 use Rattle.atomicity.specs.Invariant.{Hubs, Msg, erase, from, to, joinDone, Inv}
@@ -31,6 +30,7 @@ use Rattle.atomicity.specs.OneStep.{Clear}
 use Rattle.atomicity.specs.Good.{rowOf, coreOf, hubs, kept-names, Numbers, Holds, Good, Fine, fine-refused, fine-accepted, fine-next, not-refused}
 use Rattle.atomicity.specs.Deliver.{deliver-fine}
 use Rattle.atomicity.specs.Commands.{ask-fine, join-fine, leave-fine}
+use Rattle.atomicity.specs.Preserved.{founder-name, length-founded}
 
 -- message j of the record, among the messages with their participants
 pub record Oldest (ms : List Msg) (s : State) (x y j : ℕ) : Type 0 where

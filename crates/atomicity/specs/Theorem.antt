@@ -26,13 +26,13 @@ use Rattle.protocol.specs.Step.{Result, refused, step, deliver, onLink}
 use Rattle.protocol.specs.Step.{accepted as went}
 use Rattle.protocol.specs.Membership.{foundingMembers, afterOutcome, afterAnswer, node, ownerAmong, holds, waiting, foundTicket, ticketOf, acceptedAsk, mark}
 use Rattle.layout.specs.Form.{Form}
-use Rattle.layout.specs.Preserved.{fresh-form, responsible-states}
 use Rattle.atomicity.specs.Members.{owner-computed}
 use Rattle.atomicity.specs.Neighbours.{owner-of, holder-one}
 use Rattle.atomicity.specs.Invariant.{Msg, erase, Inv}
 use Rattle.atomicity.specs.Invariant.{lookup, join, joinRetry, joinPoint, newSucc, newSuccAck, joinDone}
 use Rattle.atomicity.specs.Invariant.{leaveReq, leaveRetry, leaveGrant, leavePoint, updateSucc, stopForward, leaveDone}
 use Rattle.atomicity.specs.Good.{rowOf, hubs, total, asks, Holds, Good, Names, Fine, fine-next, not-refused}
+use Rattle.atomicity.specs.Preserved.{fresh-form, responsible-states}
 use Rattle.atomicity.specs.Engines.{refused-answered, left, On, Begun, Laws, present-laws}
 use Rattle.atomicity.specs.Run.{question, step-fine, delivered-fine, fresh-good}
 use Rattle.atomicity.specs.Demand3.{Call, Word, ThreeWords, Engine, present, called, Event, history, recordAfter, membersAfter, questionsAccepted, foundTickets, Founded, Reached, Claims, Demand3}

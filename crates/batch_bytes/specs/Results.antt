@@ -9,7 +9,6 @@ use lib.Seq.{take-at, drop-at}
 use Rattle.lists.specs.Basics.{All, flat}
 use Rattle.lists.specs.Blocks.{length-table, length-flat}
 use Rattle.protocol.specs.declared.Answer.the-variants.{Quiet}
-use Rattle.protocol.specs.declared.Outcome.{Outcome}
 use Rattle.protocol.specs.declared.Outcome.the-variants.{Answered}
 use Rattle.protocol.specs.Names.{NOT-WELL-FORMED, PLACES-SHORT, RECORD-SHORT, ROUTE-LONG}
 use Rattle.protocol.specs.Record.{recordSize}
@@ -20,7 +19,7 @@ use Rattle.protocol.specs.Bytes.{Byte, wordsOf, over, bytesAfter, CalledBytes}
 use Rattle.protocol.specs.Batch.{Asked, inFront, askEach, placeSize, placeWords, mostQuestions, unasked, BatchCalled, batchWritten, batchCall, batchCarried, batchBytes}
 use Rattle.layout.specs.Form.{Valid, valid}
 use Rattle.layout.specs.Bytes.{back}
-use Rattle.layout.specs.Preserved.{step-valid}
+use Rattle.layout.specs.Asks.{ask-again}
 use Rattle.word_bytes.specs.First.{same-formed, same-step}
 use Rattle.word_bytes.specs.Carry.{wordAt, firstWords, words-split, words-all, words-length}
 use Rattle.batches.specs.Each.{length-asked, each-valid, place-size, batch-1, batch-2, batch-25, batch-26, batch-rest}
@@ -33,7 +32,7 @@ same-each : (a t : List ℕ) → Valid a → length a ≡ recordSize → (hub : 
 unfolding askEach
 same-each a t v e hub [] = refl
 same-each a t v e hub (u ∷ numbers) =
-    let k = step-valid a v 0 hub u in
+    let k = ask-again a v hub u in
     ap (λ (c : Called). inFront (c .outcome) (askEach (c .slice) hub numbers)) (same-step a t e 0 hub u)
     ∙ ap (inFront (stepCall a 0 hub u .outcome)) (same-each (stepCall a 0 hub u .slice) t (k .valid) (k .length ∙ e) hub numbers)
 

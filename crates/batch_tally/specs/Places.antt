@@ -21,7 +21,7 @@ use Rattle.protocol.specs.declared.Route.{Route}
 use Rattle.protocol.specs.declared.Route.the-variants.{Own, To}
 use Rattle.protocol.specs.declared.Tally.{Tally}
 use Rattle.protocol.specs.Names.{NOT-WELL-FORMED, PLACES-SHORT, RECORD-SHORT, REFUSAL, ROUTE-LONG}
-use Rattle.protocol.specs.Record.{State, row, identifier, read}
+use Rattle.protocol.specs.Record.{row, identifier, read}
 use Rattle.protocol.specs.WellFormed.{wellFormed}
 use Rattle.protocol.specs.Routing.{onward}
 use Rattle.protocol.specs.Step.{Result, refused, accepted, asking, ask, step}

@@ -24,7 +24,7 @@ use Rattle.protocol.specs.Calls.{Called, turnedDown, written, stepCall}
 use Rattle.protocol.specs.Batch.{Asked, inFront, askEach, placeSize, placeWords, mostQuestions, fitting, onBatch, batchWritten}
 use Rattle.layout.specs.Form.{Valid}
 use Rattle.layout.specs.Questions.{record-1, record-2, record-rest}
-use Rattle.layout.specs.Preserved.{Again, step-valid}
+use Rattle.layout.specs.Asks.{Again, ask-again}
 
 -- the outcomes are as many as the numbers
 pub length-asked : (w : List ℕ) (hub : ℕ) (numbers : List ℕ) → length (askEach w hub numbers .outcomes) ≡ length numbers
@@ -51,7 +51,7 @@ pub each-valid : (w : List ℕ) → Valid w → (hub : ℕ) (numbers : List ℕ)
 unfolding askEach
 each-valid w v hub [] = record { valid = v; length = refl }
 each-valid w v hub (u ∷ numbers) =
-    let k = step-valid w v 0 hub u in
+    let k = ask-again w v hub u in
     let r = each-valid (stepCall w 0 hub u .slice) (k .valid) hub numbers in
     record { valid = r .valid; length = r .length ∙ k .length }
 

@@ -5,4 +5,4 @@ pub mod Questions
 pub mod Bytes
 pub mod Founder
 pub mod Owners
-pub mod Preserved
+pub mod Asks

@@ -11,7 +11,7 @@ use Rattle.protocol.specs.declared.Outcome.the-variants.{Refused, Answer
 use Rattle.protocol.specs.declared.Tally.{Tally}
 use Rattle.protocol.specs.Names.{PLACES-SHORT, ROUTE-LONG}
 use Rattle.protocol.specs.Answers.{answerWords, refusal, counted}
-use Rattle.protocol.specs.Calls.{Called, onRecord, stepCall}
+use Rattle.protocol.specs.Calls.{onRecord, stepCall}
 use Rattle.protocol.specs.Bytes.{wordsOf, bytesAfter, CalledBytes}
 
 -- What some questions leave: their outcomes, in list order, and the lent slice.

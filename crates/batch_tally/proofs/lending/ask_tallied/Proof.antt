@@ -1,10 +1,7 @@
 -- `ask_tallied`: a refused call has asked nothing, and an accepted one has a place for each question. Assumes nothing.
-use mathlib.Core.Path.{_≡_, ap, _∙_}
+use mathlib.Core.Path.{ap, _∙_}
 use native.Mathlib.Omega.{arith}
-use lib.ListN.{length}
-use Rattle.protocol.specs.declared.Outcome.the-variants.{Refused, Answered}
-use Rattle.protocol.specs.Batch.{BatchCalled, batchCall}
-use Rattle.batch_tally.specs.Places.{Counted, refused-counts, answered-counts}
+use Rattle.batch_tally.specs.Places.{refused-counts, answered-counts}
 use borrow.Author.Needs.{needs}
 use Rattle.batch_tally.proofs.lending.ask_tallied.Statement.{statement}
 use Rattle.batch_tally.proofs.lending.ask_tallied.Tie as tie

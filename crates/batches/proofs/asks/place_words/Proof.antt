@@ -1,6 +1,4 @@
 -- `place_words`: a refusal's six words compute, and an answer's are 0 and its five. Assumes nothing.
-use mathlib.Core.Path.{sym, ap, _∙_}
-use mathlib.Core.List.{_∷_}
 use Rattle.protocol.specs.declared.Outcome.the-variants.{Answered}
 use Rattle.protocol.specs.Batch.{placeWords}
 use Rattle.batches.specs.Each.{place-size, word-by-word}

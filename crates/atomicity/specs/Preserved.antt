@@ -11,12 +11,12 @@ use native.Mathlib.Omega.{arith}
 use lib.Dec.{T, leb, ltb, eqb, leb→le, ltb→lt, eqb→eq, nltb→le, T-not}
 use lib.ListN.{length, getD, set, take, drop, length-set, length-append, length-take, length-drop, length-map, List·getD-map}
 use lib.Seq.{map-set-same}
-use Rattle.lists.specs.Basics.{if_then_else_, require, Mem}
-use Rattle.lists.specs.Choice.{choose, tested}
-use Rattle.lists.specs.Members.{mem-at, mem-split, mem-set}
+use Rattle.lists.specs.Basics.{if_then_else_, Mem}
+use Rattle.lists.specs.Choice.{choose}
+use Rattle.lists.specs.Members.{mem-at, mem-set}
 use Rattle.lists.specs.Search.{Missed, search-ends}
 use Rattle.lists.specs.Search.{Located}
-use Rattle.lists.specs.Tests.{and-left, and-right, →eqb, T-true, true-T, Distinct}
+use Rattle.lists.specs.Tests.{and-left, and-right, →eqb, true-T, Distinct}
 use Rattle.protocol.specs.declared.Row.{Row}
 use Rattle.protocol.specs.declared.Message.{Message}
 use Rattle.protocol.specs.declared.Answer.{Answer}
@@ -25,39 +25,23 @@ use Rattle.protocol.specs.declared.Route.the-variants.{Own, To}
 use Rattle.protocol.specs.declared.Decision.{Decision}
 use Rattle.protocol.specs.declared.Decision.the-variants.{Refuse, Reply, Send}
 use Rattle.protocol.specs.Names.{INSIDE, JOINING, LEAVING, NO-OPERATION, NOT-EXPECTED, OUTSIDE, WANTING-TO-LEAVE, JOIN, JOINRETRY, JOINPOINT, NEWSUCC, NEWSUCCACK, JOINDONE, LEAVEREQ, LEAVERETRY, LEAVEGRANT, LEAVEPOINT, UPDATESUCC, STOPFORWARD, LEAVEDONE, LOOKUP}
-use Rattle.protocol.specs.Record.{mostNodes, mostMessages, recordSize, none, State, count, row, identifier, message, noMessage, outside, read, words, withRow, sent, withoutMessage, ticketed}
+use Rattle.protocol.specs.Record.{mostNodes, mostMessages, none, State, count, row, identifier, message, noMessage, outside, withRow, withoutMessage}
 use Rattle.protocol.specs.WellFormed.{namesNode}
 use Rattle.protocol.specs.Fresh.{alone, foundedBy, fresh}
-use Rattle.protocol.specs.Routing.{inRing, responsible, onward, route}
+use Rattle.protocol.specs.Routing.{inRing, responsible, route}
 use Rattle.protocol.specs.Kinds as kinds
 use Rattle.protocol.specs.Kinds.{note, grown, lookupRouted, joinRouted, admitted, handle}
 use Rattle.protocol.specs.Step as step
-use Rattle.protocol.specs.Step.{Result, refused, accepted, conclude, room, asking, onLink, oldest, delivered}
-use Rattle.protocol.specs.Calls.{Called, turnedDown, written, stepCall}
-use Rattle.layout.specs.Words.{length-words}
-use Rattle.layout.specs.Form.{RowForm, MessageForm, Form, row-at, well-formed-words, long-words, Valid, valid, valid-form}
-use Rattle.layout.specs.Questions.{record-rest}
-
--- state 2 to 4
-pub ring-states : (h : Row) → T (inRing h) → (INSIDE ≤ h .state) × (h .state ≤ LEAVING)
-unfolding inRing
-ring-states h t =
-    (leb→le INSIDE (h .state) (and-left (leb INSIDE (h .state)) (leb (h .state) LEAVING) t), leb→le (h .state) LEAVING (and-right (leb INSIDE (h .state)) (leb (h .state) LEAVING) t))
+use Rattle.protocol.specs.Step.{conclude, onLink, oldest, delivered}
+use Rattle.layout.specs.Form.{RowForm, MessageForm, Form, row-at}
+use Rattle.layout.specs.Asks.{ring-states, Leads, onward-leads, Leaves, leaves-refused, leaves-accepted, sent-form, ask-yes, roomy, ask-form}
 
 pub responsible-states : (h : Row) → T (responsible h) → (INSIDE ≤ h .state) × (h .state ≤ WANTING-TO-LEAVE)
 unfolding responsible
 responsible-states h t =
     (leb→le INSIDE (h .state) (and-left (leb INSIDE (h .state)) (ltb (h .state) LEAVING) t), omega (arith, ltb→lt (h .state) LEAVING (and-right (leb INSIDE (h .state)) (ltb (h .state) LEAVING) t)))
 
--- where a number goes is a hub
-abbrev Leads : ℕ → Route → Type 0
-Leads n Own = Unit {0}
-Leads n (To z) = z < n
-
-onward-leads : (n p : ℕ) (h : Row) (v : ℕ) → h .succ < n → Leads n (onward p h v)
-unfolding onward
-onward-leads n p h v l = choose (Leads n) _ _ _ (λ _. l) (λ _. choose (Leads n) _ _ _ (λ _. tt) (λ _. l))
-
+-- where a message goes is a hub
 route-leads : (n p : ℕ) (h : Row) (f v : ℕ) → h .pred < n → h .succ < n → Leads n (route p h f v)
 unfolding route
 route-leads n p h f v k l = choose (Leads n) _ _ _ (λ _. k) (λ _. onward-leads n p h v l)
@@ -354,23 +338,6 @@ module _ (n q : ℕ) (h : Row) (r : RowForm n h) (m : Message) (ok : MessageForm
       by : (k : ℕ) (x y : Decision) → (m .kind ≡ k → Well x) → Well y → Well (if eqb (m .kind) k then x else y)
       by k x y f g = choose Well (eqb (m .kind) k) x y (λ t. f (eqb→eq (m .kind) k t)) (λ _. g)
 
--- a step's result
-pub Leaves : Result → Type 0
-Leaves (refused k) = Unit {0}
-Leaves (accepted a s) = Form s
-
-pub leaves-refused : (k : ℕ) → Leaves (refused k)
-unfolding Leaves
-leaves-refused k = tt
-
-pub leaves-form : (a : Answer) (s : State) → Leaves (accepted a s) → Form s
-unfolding Leaves
-leaves-form a s f = f
-
-pub leaves-accepted : (a : Answer) (s : State) → Form s → Leaves (accepted a s)
-unfolding Leaves
-leaves-accepted a s f = f
-
 -- the row of hub t is made v
 with-row-form : (s : State) (t : ℕ) (v : Row) → Form s → RowForm (count s) v → v .identifier ≡ row s t .identifier → Form (withRow s t v)
 with-row-form s t v f r e =
@@ -383,22 +350,6 @@ with-row-form s t v f r e =
       rows = λ h k. rw n (elim (mem-set (s .rows) t v h k) [ inl q ↦ subst (RowForm (count s)) (sym q) r | inr j ↦ f .rows h j ]);
       messages = λ m k. rw n (f .messages m k);
     }
-
--- a message is put last
-sent-form : (s : State) (m : Message) → Form s → length (s .messages) < mostMessages → MessageForm (count s) (s .asked) m → Form (sent s m)
-sent-form s m f l o = record {
-  some = f .some;
-  few = f .few;
-  short = omega (arith, length-append (s .messages) (m ∷ []));
-  differ = f .differ;
-  rows = f .rows;
-  messages = λ x k. go x (mem-split x (s .messages) (m ∷ []) k);
-}
-  where
-    go : (x : Message) → Mem x (s .messages) ⊎ Mem x (m ∷ []) → MessageForm (count s) (s .asked) x
-    go x (inl k) = f .messages x k
-    go x (inr (inl e)) = subst (MessageForm (count s) (s .asked)) (sym e) o
-    go x (inr (inr k)) = absurd k
 
 conclude-form : (s : State) (t : ℕ) (d : Decision) → Form s → length (s .messages) < mostMessages → Sound (count s) (s .asked) (row s t) d → Leaves (conclude s t d)
 unfolding conclude
@@ -447,13 +398,6 @@ module _ (s : State) (f : Form s) (j : ℕ) (l : j < length (s .messages)) where
       (handle-sound (count s) (s .asked) (row s t) (row-at f t (rw e at (ok .to))) (message s j) ok (identifier s (row s t .pred)) (row s (message s j .a)))
 
 module _ (s : State) (f : Form s) where
-  ask-yes : (b : Bool) (k : ℕ) (r : Result) → (T b → Leaves r) → Leaves (require b (refused k) r)
-  ask-yes b k r g = tested Leaves b (refused k) r (leaves-refused k) g
-
-  roomy : T (room s) → length (s .messages) < mostMessages
-  unfolding room
-  roomy t = ltb→lt (length (s .messages)) mostMessages t
-
   join-form : (x y : ℕ) → Leaves (step.join s x y)
   unfolding step.join namesNode
   join-form x y = ask-yes _ _ _ λ t4. ask-yes _ _ _ λ t6. ask-yes _ _ _ λ t5. ask-yes _ _ _ λ t11.
@@ -461,7 +405,7 @@ module _ (s : State) (f : Form s) where
       let ly : y < count s = ltb→lt y (count s) (and-right (ltb x (count s)) (ltb y (count s)) t4) in
       let e : row s x .state ≡ OUTSIDE = eqb→eq _ OUTSIDE t6 in
       let r = row-at f x lx in
-      conclude-form s x _ f (roomy t11) (
+      conclude-form s x _ f (roomy s t11) (
         record {
           state = omega arith;
           lock = omega arith;
@@ -483,7 +427,7 @@ module _ (s : State) (f : Form s) where
       let z : row s x .lock ≡ 0 = eqb→eq _ 0 t7 in
       let r = row-at f x lx in
       let b = r .linked (w .0) in
-      conclude-form s x _ f (roomy t11) (
+      conclude-form s x _ f (roomy s t11) (
         record {
           state = omega arith;
           lock = omega arith;
@@ -497,45 +441,6 @@ module _ (s : State) (f : Form s) where
         note-form LEAVEREQ x (row s x .succ) 0 (omega arith) (omega arith) lx (b .1) (λ t. absurd t) (λ _. refl),
       )
 
-  -- one question more asked
-  more-asked : (m : Message) → MessageForm (count s) (s .asked) m → MessageForm (count s) (s .asked + 1) m
-  more-asked m o = record {
-    low = o .low;
-    high = o .high;
-    from = o .from;
-    to = o .to;
-    node = o .node;
-    zero = o .zero;
-    lookup = λ e. (omega (arith, o .lookup e .0), o .lookup e .1);
-    plain = o .plain;
-  }
-
-  ticketed-form : Form (ticketed s)
-  ticketed-form = record { some = f .some; few = f .few; short = f .short; differ = f .differ; rows = f .rows; messages = λ m k. more-asked m (f .messages m k) }
-
-  asking-form : (x v : ℕ) → x < count s → (z : Route) → Leads (count s) z → Leaves (asking s x v z)
-  unfolding asking namesNode
-  asking-form x v lx Own l = leaves-accepted _ _ ticketed-form
-  asking-form x v lx (To z) l = ask-yes _ _ _ λ t11.
-      leaves-accepted _ _ (sent-form (ticketed s) _ ticketed-form (roomy t11)
-      (record {
-        low = omega arith;
-        high = omega arith;
-        from = lx;
-        to = l;
-        node = λ _ ne. absurd (ne refl);
-        zero = λ _ ne. absurd (ne refl);
-        lookup = λ _. omega arith;
-        plain = λ ne. absurd (ne refl);
-      }))
-
-  ask-form : (x v : ℕ) → Leaves (step.ask s x v)
-  unfolding step.ask
-  ask-form x v = ask-yes _ _ _ λ t4. ask-yes _ _ _ λ t5. ask-yes _ _ _ λ t12.
-      let lx : x < count s = ltb→lt x (count s) t4 in
-      asking-form x v lx (onward (identifier s (row s x .pred)) (row s x) v)
-      (onward-leads (count s) _ (row s x) v (row-at f x lx .linked (ring-states (row s x) t5 .0) .1))
-
   deliver-form : (x y : ℕ) → Leaves (step.deliver s x y)
   unfolding step.deliver
   deliver-form x y = ask-yes _ _ _ λ t4. ask-yes _ _ _ λ t9.
@@ -545,29 +450,8 @@ module _ (s : State) (f : Form s) where
   pub step-form : (operation x y : ℕ) → Leaves (step.step s operation x y)
   unfolding step.step
   step-form operation x y =
-      choose Leaves _ _ _ (λ _. ask-form x y) (λ _. choose Leaves _ _ _ (λ _. join-form x y) (λ _. choose Leaves _ _ _ (λ _. leave-form x)
+      choose Leaves _ _ _ (λ _. ask-form s f x y) (λ _. choose Leaves _ _ _ (λ _. join-form x y) (λ _. choose Leaves _ _ _ (λ _. leave-form x)
       (λ _. choose Leaves _ _ _ (λ _. deliver-form x y) (λ _. leaves-refused NO-OPERATION))))
-
--- The same of words: a step leaves a valid record valid, also where it is refused, and as long as it was.
-pub record Again (w z : List ℕ) : Type 0 where
-  pub valid : Valid z
-  pub length : length z ≡ length w
-
-pub step-valid : (w : List ℕ) → Valid w → (operation x y : ℕ) → Again w (stepCall w operation x y .slice)
-unfolding stepCall written
-step-valid w v operation x y =
-    subst (λ (c : Called). Again w (c .slice)) (sym (record-rest w (turnedDown w) _ (v .long) (v .formed)))
-    (go (step.step (read w) operation x y) (step-form (read w) (valid-form w v) operation x y))
-  where
-    go : (r : Result) → Leaves r → Again w (written w r .slice)
-    go (refused k) l = record { valid = v; length = refl }
-    go (accepted a s) l =
-        let f = leaves-form a s l in
-        let t = drop recordSize w in
-        record {
-          valid = valid (words s ++ t) (long-words s t f) (T-true _ (well-formed-words s t f));
-          length = length-append (words s) t ∙ omega (arith, length-words s t (f .few) (f .short), length-drop recordSize w, v .long);
-        }
 
 -- A fresh ring is well formed.
 module _ (ids : List ℕ) where
