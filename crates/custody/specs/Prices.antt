@@ -1,5 +1,5 @@
--- Steps and refused offers leave the prices of the cards, and an accepted offer puts in its own: of any two slices, whatever is in them. Assumes nothing.
-use mathlib.Core.Path.{_≡_, refl, _∙_, ap}
+-- Steps, routes and refused offers leave the prices of the cards, and an accepted offer puts in its own: of any two slices, whatever is in them. Assumes nothing.
+use mathlib.Core.Path.{_≡_, refl, sym, _∙_, ap}
 use mathlib.Core.List.{List, [], _∷_, map}
 use Prim.Native.Nat.{ℕ}
 use native.Mathlib.Omega.{arith}
@@ -15,7 +15,8 @@ use Rattle.protocol.specs.Calls.{stepCall}
 use Rattle.protocol.specs.Cards.{bookSize, Book, marksIn, readBook, marked, rehoused, moved, Offered, declined, kept, CardsCalled, bothLong, onBoth, putBook, following, afterCall, stepCards, offerWritten, offerCall}
 use Rattle.cardlayout.specs.Books.{Fits, Neat, read-fits, read-book}
 use Rattle.cardlayout.specs.Sound.{neat}
-use Rattle.custody.specs.Custody.{Offer, CardCall, step, offer, made, cardHistory, cardsAfter, pricesThen, pricesAfter, priced, Conserved}
+use Rattle.custody.specs.Custody.{Offer, CardCall, step, offer, route, made, cardHistory, cardsAfter, pricesThen, pricesAfter, priced, Conserved}
+use Rattle.custody.specs.Routes.{behind-prices}
 use Rattle.custody.specs.Offers.{Fair, offer-fair}
 use Rattle.custody.specs.Kept.{map-after}
 
@@ -44,6 +45,7 @@ module _ (w k : List ℕ) where
       as-it-was : (c : CardCall) (number : ℕ) → prices ≡ pricesThen prices c (Refused number)
       as-it-was (step s) number = refl
       as-it-was (offer o) number = refl
+      as-it-was (route r) number = refl
 
   -- cards that change hub keep their prices
   moved-prices : Neat k → (hub x : ℕ) → map priced (readBook (putBook k (moved (identifiers (read w)) (readBook k) (set (marksIn k) hub x))) .cards) ≡ prices
@@ -77,6 +79,7 @@ module _ (w k : List ℕ) where
   unfolding stepCards offerCall
   one (step c) = asked (step c) _ (λ n. answered n (stepCall w (c .operation) (c .x) (c .y) .slice) (stepCall w (c .operation) (c .x) (c .y) .outcome))
   one (offer o) = asked (offer o) _ (λ n. offering n o _ _ (offer-fair (readBook k .cards) _ (read-fits k n .cards)))
+  one (route r) = refl
 
 pub conserved : Conserved
 unfolding Conserved cardsAfter cardHistory pricesAfter
@@ -84,3 +87,4 @@ conserved w k [] = refl
 conserved w k (c ∷ calls) =
     conserved (made w k c .slice) (made w k c .cards) calls
     ∙ ap (λ z. pricesAfter z (cardHistory (made w k c .slice) (made w k c .cards) calls)) (one w k c)
+    ∙ sym (behind-prices (pricesThen (prices w k) c (made w k c .outcome)) w c (cardHistory (made w k c .slice) (made w k c .cards) calls))

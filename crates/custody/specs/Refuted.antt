@@ -19,11 +19,12 @@ use Rattle.protocol.specs.Fresh.{alone}
 use Rattle.protocol.specs.Kinds.{question}
 use Rattle.protocol.specs.Calls.{long, onRecord, stepCall}
 use Rattle.protocol.specs.Answers.{refusal}
+use Rattle.protocol.specs.Batch.{fitting}
 use Rattle.protocol.specs.Membership.{nearer, ownerAmong, mark}
 use Rattle.protocol.specs.Cards.{bookSize, hubOf, readBook, CardsCalled, unchanged, bothLong, onBoth, stepCards}
 use Rattle.layout.specs.Words.{read-words}
 use Rattle.atomicity.specs.Demand3.{Call, Event, history, recordAfter, membersAfter}
-use Rattle.custody.specs.Custody.{Offer, CardEvent, step, offer, stepEvents, put, pricesAfter, CardClaims}
+use Rattle.custody.specs.Custody.{Offer, Route, CardEvent, step, offer, route, ask, steps, stepEvents, put, pricesAfter, CardClaims}
 
 abbrev two : List ℕ
 two = 100 ∷ 200 ∷ []
@@ -83,7 +84,7 @@ pub slices-too-short : founded [] → ⊥
 unfolding code onBoth bothLong long refusal require if_then_else_
 slices-too-short c = let e = ap code (c .ready (unchanged [] [] 0)) in omega (arith, e)
 
--- (e) A step that is refused by 2 with cards, and by 1 without them (the record is empty); and a record that is not the one without cards.
+-- (e) A step that is refused by 2 with cards, and by 1 without them (the record is empty).
 abbrev leaving : Call
 leaving = record { operation = 2; x = 0; y = 0 }
 
@@ -95,6 +96,33 @@ pub refused-by-the-cards : CardClaims two 0 [] (leaving ∷ []) (record { call =
 unfolding stepEvents history number refusal stepCall onRecord long require if_then_else_
 refused-by-the-cards c = let e = ap number (c .outcomes) in omega (arith, e)
 
+-- A route whose question was refused by 2, where asking is refused by 1; one whose question is missing; and one with too few places for its number,
+-- whose question was asked all the same.
+abbrev onePlace : Route
+onePlace = record { hub = 0; numbers = 7 ∷ []; out = replicate 6 0 }
+
+abbrev noPlace : Route
+noPlace = record { hub = 0; numbers = 7 ∷ []; out = replicate 5 0 }
+
+abbrev routed : Route → List CardEvent → Type 0
+routed r events = CardClaims two 0 [] (steps (route r ∷ [])) (record { call = route r; outcome = Answered Quiet } ∷ events) [] []
+
+abbrev asked : ℕ → List CardEvent
+asked k = record { call = step (ask 0 7); outcome = Refused k } ∷ []
+
+pub route-differs-from-asking : routed onePlace (asked NOT-WELL-FORMED) → ⊥
+unfolding steps fitting stepEvents history number refusal stepCall onRecord long require if_then_else_
+route-differs-from-asking c = let e = ap number (c .outcomes) in omega (arith, e)
+
+pub question-not-asked : routed onePlace [] → ⊥
+unfolding steps fitting stepEvents history require if_then_else_
+question-not-asked c = let e = ap length (c .outcomes) in omega (arith, e)
+
+pub asked-without-a-place : routed noPlace (asked RECORD-SHORT) → ⊥
+unfolding steps fitting stepEvents history require if_then_else_
+asked-without-a-place c = let e = ap length (c .outcomes) in omega (arith, e)
+
+-- A record that is not the one without cards.
 pub record-differs : CardClaims two 0 [] [] [] (1 ∷ []) [] → ⊥
 unfolding recordAfter
 record-differs c = let e = ap length (c .same) in omega (arith, e)

@@ -1,4 +1,4 @@
--- 2026-04, proved: every list of steps with cards and offers, from every card slice made with its ring. Assumes nothing.
+-- 2026-04, proved: every list of steps with cards, offers and routes, from every card slice made with its ring. Assumes nothing.
 use mathlib.Core.Path.{_≡_, refl, sym, _∙_, ap, subst}
 use mathlib.Core.Bool.{Bool, true, false}
 use mathlib.Core.List.{List, [], _∷_, _++_, map, append-nil, append-assoc}
@@ -36,7 +36,8 @@ use Rattle.atomicity.specs.Demand3.{Call, Word, ThreeWords, present, called, Ev
 use Rattle.atomicity.specs.Engines.{refused-answered, present-laws}
 use Rattle.atomicity.specs.Theorem.{members-last, Course, members-below, runs, reached-course, demand-3}
 use Rattle.custody.specs.Lasting.{Some, some-kept}
-use Rattle.custody.specs.Custody.{Offer, CardCall, step, offer, InWords, made, CardEvent, cardHistory, wordsAfter, cardsAfter, steps, stepEvents, pricesThen, pricesAfter, priced, Custody}
+use Rattle.custody.specs.Custody.{Offer, Route, CardCall, step, offer, route, InWords, made, CardEvent, behind, cardHistory, wordsAfter, cardsAfter, asks, steps, stepEvents, pricesThen, pricesAfter, priced, Custody}
+use Rattle.custody.specs.Routes.{route-history, route-record, route-stays, behind-prices, asks-words, words-append, history-append, record-append, members-append, route-append}
 use Rattle.custody.specs.Offers.{Fair, offer-fair}
 use Rattle.custody.specs.Kept.{Ledger, Kept, to-marked, from-marked, book-form, moves, takes}
 
@@ -233,6 +234,15 @@ module _ (ids : List ℕ) (founder : ℕ) (rest : List ℕ) where
           };
         }
 
+    -- one route: its asks as steps, which leave ledger and cards
+    asked : (r : Route) → InWords (route r) → Stage (events ++ history present w (asks r)) prices (recordAfter present w (asks r)) k
+    asked r a = record {
+      course = runs ids founder present present-laws Some (some-kept ids) events w (S .course) (asks r) (asks-words r (a .0) (a .1));
+      book = b;
+      holds = subst (λ z. Kept ids z b prices) (sym (members-append (foundingMembers founder) events (history present w (asks r)) ∙ route-stays (members events) w r)) K;
+      is = S .is;
+    }
+
     -- what the stage says of the cards
     member-words : (hub : ℕ) → hub < mostNodes → getD k (1 + hub) 0 ≡ mark (members events) hub
     member-words hub l = sym (getD-drop 1 k hub 0) ∙ sym (getD-take mostNodes (drop 1 k) hub 0 l) ∙ ap (λ z. getD z hub 0) marks-are ∙ K .marks hub l
@@ -296,6 +306,40 @@ module _ (ids : List ℕ) (founder : ℕ) (rest : List ℕ) where
       subst (λ x. Ends events prices (steps calls) w (record { call = offer o; outcome = z .outcome } ∷ cardHistory x (z .cards) calls) (wordsAfter x (z .cards) calls) (cardsAfter x (z .cards) calls)) (sym zv)
       (record { outcomes = e .outcomes; same = e .same; stage = e .stage })
 
+  -- a route in front of the others
+  after-route : (events : List Event) (prices : List Offer) (w k : List ℕ) (r : Route) (calls : List CardCall) (o : Outcome) (v : List ℕ)
+      → stepEvents (behind w (route r)) ≡ history present w (asks r) → v ≡ recordAfter present w (asks r)
+      → EndsAfter (events ++ history present w (asks r)) prices calls (recordAfter present w (asks r)) k
+      → Ends events prices (asks r ++ steps calls) w (record { call = route r; outcome = o } ∷ (behind w (route r) ++ cardHistory v k calls))
+      (wordsAfter v k calls) (cardsAfter v k calls)
+  unfolding stepEvents pricesAfter
+  after-route events prices w k r calls o v eh ev e = subst Ending (sym ev) (record {
+    outcomes = all ∙ ap (λ l. given ++ l) (e .outcomes) ∙ sym (history-append w (asks r) (steps calls));
+    same = e .same ∙ sym (record-append w (asks r) (steps calls));
+    stage = subst (λ l. Staged l (pricesAfter prices (behind w (route r) ++ later))) (append-assoc events given (stepEvents later) ∙ ap (λ l. events ++ l) (sym all))
+        (subst (Staged ((events ++ given) ++ stepEvents later)) (sym (behind-prices prices w (route r) later)) (e .stage));
+  })
+    where
+      Ending : List ℕ → Type 0
+      Ending x =
+          Ends events prices (asks r ++ steps calls) w (record { call = route r; outcome = o } ∷ (behind w (route r) ++ cardHistory x k calls))
+          (wordsAfter x k calls) (cardsAfter x k calls)
+
+      given : List Event
+      given = history present w (asks r)
+
+      left : List ℕ
+      left = recordAfter present w (asks r)
+
+      later : List CardEvent
+      later = cardHistory left k calls
+
+      Staged : List Event → List Offer → Type 0
+      Staged l p = Stage l p (wordsAfter left k calls) (cardsAfter left k calls)
+
+      all : stepEvents (behind w (route r) ++ later) ≡ given ++ stepEvents later
+      all = route-append w r later ∙ ap (λ l. l ++ stepEvents later) eh
+
   -- every list of calls
   goes : (events : List Event) (prices : List Offer) (w k : List ℕ) → Stage events prices w k → (calls : List CardCall) → All InWords calls → EndsAfter events prices calls w k
   unfolding cardHistory wordsAfter cardsAfter steps stepEvents history recordAfter pricesAfter
@@ -308,6 +352,11 @@ module _ (ids : List ℕ) (founder : ℕ) (rest : List ℕ) where
       let d = taken S o (a .0 .0) in
       after-offer events prices w k o calls (made w k (offer o)) (d .slice)
       (goes events (pricesThen prices (offer o) (made w k (offer o) .outcome)) w (made w k (offer o) .cards) (d .stage) calls (a .1))
+  goes events prices w k S (route r ∷ calls) a =
+      let l = long-enough (S .course) in
+      let f = well-formed (S .course) in
+      after-route events prices w k r calls (made w k (route r) .outcome) (made w k (route r) .slice) (route-history w r l f) (route-record w r l f)
+      (goes _ prices (recordAfter present w (asks r)) k (asked S r (a .0)) calls (a .1))
 
 -- the steps' numbers
 steps-words : (calls : List CardCall) → All InWords calls → All ThreeWords (steps calls)
@@ -315,6 +364,7 @@ unfolding steps
 steps-words [] a = tt
 steps-words (step c ∷ calls) a = (a .0, steps-words calls (a .1))
 steps-words (offer o ∷ calls) a = steps-words calls (a .1)
+steps-words (route r ∷ calls) a = words-append (asks r) (steps calls) (asks-words r (a .0 .0) (a .0 .1)) (steps-words calls (a .1))
 
 -- What a fresh call with cards has accepted, and what it wrote.
 record Made (slice book ids : List ℕ) (founder : ℕ) : Type 0 where
