@@ -30,6 +30,11 @@ use Rattle.protocol.specs.Calls.{Called, long, onRecord, written, stepCall}
 use Rattle.protocol.specs.Batch.{askEach, placeSize, placeWords, mostQuestions, fitting, onBatch, BatchCalled, unasked, batchWritten, batchCall, batchOutcomes, countedAll}
 use Rattle.batches.specs.Each.{length-asked, place-size}
 
+-- How many places a call with n numbers has written.
+unfoldable pub writtenPlaces : Outcome → ℕ → ℕ
+writtenPlaces (Refused k) n = 0
+writtenPlaces (Answered a) n = n
+
 -- The count that a place raises, from its first word on: its refusal, then its answer's kind.
 unfoldable pub countAt : List ℕ → ℕ → ℕ
 countAt o at = if eqb (getD o at 0) 0 then getD o (at + 1) 0 else REFUSAL
@@ -142,61 +147,31 @@ each-counted t w hub numbers rest =
     ap (countedPlaces t (flat placeWords (askEach w hub numbers .outcomes) ++ rest)) (sym (length-asked w hub numbers))
     ∙ places-counted t (askEach w hub numbers .outcomes) (each-told w hub numbers) rest
 
--- a refusal is no answer
-apart : {k : ℕ} {a : Answer} → Refused k ≡ Answered a → ⊥
-apart e = subst Refusal e tt
-  where
-    Refusal : Outcome → Type 0
-    Refusal (Refused k) = Unit {0}
-    Refusal (Answered a) = ⊥
-
--- What the call says of its tally, refused or not: by its four tests.
+-- What the call says of its tally, refused or not: what stands in the places that it wrote, counted, is what it asked.
 module _ (w : List ℕ) (hub : ℕ) (numbers out : List ℕ) where
-  abbrev all : BatchCalled
-  all = batchWritten numbers out (askEach w hub numbers)
+  pub record Counted (c : BatchCalled) (outcomes : List Outcome) : Type 0 where
+    pub room : placeSize * writtenPlaces (c .outcome) (length numbers) ≤ length out
+    pub tally : (t : Tally) → countedPlaces t (c .output) (writtenPlaces (c .outcome) (length numbers)) ≡ countedAll t outcomes
 
+  -- by the four tests of the call
   four : {A : Type 0} → (ℕ → A) → A → Bool → Bool → Bool → Bool → A
   four no-result rest b c d e =
       require b (no-result RECORD-SHORT) (require c (no-result NOT-WELL-FORMED) (require d (no-result ROUTE-LONG) (require e (no-result PLACES-SHORT) rest)))
 
-  abbrev outcomesAt : Bool → Bool → Bool → Bool → List Outcome
-  outcomesAt = four (λ k. []) (askEach w hub numbers .outcomes)
+  by-tests : (b c d e : Bool) → (T e → length numbers ≤ length out / placeSize)
+      → Counted (four (unasked w out) (batchWritten numbers out (askEach w hub numbers)) b c d e) (four (λ k. []) (askEach w hub numbers .outcomes) b c d e)
+  unfolding four require if_then_else_ batchWritten writtenPlaces countedPlaces countedAll
+  by-tests true true true true f = record {
+    room = (let l = f tt in omega arith);
+    tally = λ t. each-counted t w hub numbers (drop (placeSize * length numbers) out);
+  }
+  by-tests true true true false f = record { room = omega arith; tally = λ t. refl }
+  by-tests true true false e f = record { room = omega arith; tally = λ t. refl }
+  by-tests true false d e f = record { room = omega arith; tally = λ t. refl }
+  by-tests false c d e f = record { room = omega arith; tally = λ t. refl }
 
-  abbrev callAt : Bool → Bool → Bool → Bool → BatchCalled
-  callAt = four (unasked w out) all
-
-  pub refused-counts : (k : ℕ) (z o : List ℕ) → batchCall w hub numbers out ≡ record { outcome = Refused k; slice = z; output = o }
-      → (t : Tally) → t ≡ countedAll t (batchOutcomes w hub numbers out)
-  unfolding batchCall batchOutcomes batchWritten onBatch onRecord fitting four countedAll require if_then_else_
-  refused-counts k z o e t =
-      ap (countedAll t) (sym (go (long w) (wellFormed w) (leb (length numbers) mostQuestions) (leb (length numbers) (length out / placeSize)) (ap (λ (c : BatchCalled). c .outcome) e)))
-    where
-      go : (b c d e : Bool) → callAt b c d e .outcome ≡ Refused k → outcomesAt b c d e ≡ []
-      go true true true true p = absurd (apart (sym p))
-      go true true true false p = refl
-      go true true false e p = refl
-      go true false d e p = refl
-      go false c d e p = refl
-
-  pub record Counted (o : List ℕ) : Type 0 where
-    pub room : placeSize * length numbers ≤ length out
-    pub tally : (t : Tally) → countedPlaces t o (length numbers) ≡ countedAll t (batchOutcomes w hub numbers out)
-
-  pub answered-counts : (a : Answer) (z o : List ℕ) → batchCall w hub numbers out ≡ record { outcome = Answered a; slice = z; output = o } → Counted o
-  unfolding batchCall batchOutcomes batchWritten onBatch onRecord fitting four require if_then_else_
-  answered-counts a z o e =
-      let r = go (long w) (wellFormed w) (leb (length numbers) mostQuestions) (leb (length numbers) (length out / placeSize)) (ap (λ (c : BatchCalled). c .outcome) e) in
-      let l = leb→le (length numbers) (length out / placeSize) (r .2) in
-      record {
-        room = omega arith;
-        tally = λ t.
-            ap (λ (c : BatchCalled). countedPlaces t (c .output) (length numbers)) (sym e ∙ r .1)
-            ∙ each-counted t w hub numbers (drop (placeSize * length numbers) out) ∙ ap (countedAll t) (sym (r .0));
-      }
-    where
-      go : (b c d e : Bool) → callAt b c d e .outcome ≡ Answered a → (outcomesAt b c d e ≡ askEach w hub numbers .outcomes) × (callAt b c d e ≡ all) × T e
-      go true true true true p = (refl, refl, tt)
-      go true true true false p = absurd (apart p)
-      go true true false e p = absurd (apart p)
-      go true false d e p = absurd (apart p)
-      go false c d e p = absurd (apart p)
+  pub call-counts : (c : BatchCalled) → batchCall w hub numbers out ≡ c → Counted c (batchOutcomes w hub numbers out)
+  unfolding batchCall batchOutcomes onBatch onRecord fitting four
+  call-counts c e =
+      subst (λ z. Counted z (batchOutcomes w hub numbers out)) e
+      (by-tests (long w) (wellFormed w) (leb (length numbers) mostQuestions) (leb (length numbers) (length out / placeSize)) (leb→le _ _))

@@ -1,4 +1,5 @@
 // The questions counted by what stands in their places.
+use protocol::Outcome;
 use protocol::Tally;
 use protocol::answer_kinds;
 use protocol::form::PLACE_WORDS;
@@ -6,7 +7,17 @@ ghost use mathlib.Core.Path.{_≡_};
 ghost use Prim.Native.Nat.{_+_, _*_, _≤_, _<_};
 ghost use lib.ListN.{length};
 ghost use Rattle.protocol.specs.Batch.{placeSize};
-ghost use Rattle.batch_tally.specs.Places.{countAt, countedPlaces};
+ghost use Rattle.batch_tally.specs.Places.{writtenPlaces, countAt, countedPlaces};
+
+// How many places a call with n numbers has written: none, where it is refused.
+pub(crate) fn written(r: Outcome, n: usize) -> usize
+    ensures { λ k. ⌜ k ≡ writtenPlaces r n ⌝ }
+{
+    match r {
+        Outcome::Refused(_) => 0,
+        Outcome::Answered(_) => n,
+    }
+}
 
 // The count that the place from word `at` on raises: that of refusals, or that of its answer's kind.
 fn count_at(outcomes: &[u32], at: usize) -> u32

@@ -1,5 +1,6 @@
 // The call with its tally as a value, handed in and handed back.
 use crate::counts::count_each;
+use crate::counts::written;
 use protocol::Outcome;
 use protocol::Tally;
 use tally::Tallied;
@@ -16,17 +17,10 @@ pub(crate) fn ask_tallied(
     ensures { λ r. ⌜ (batchCall (now (w .entry)) node (now (numbers .entry)) (now (outcomes .entry)) ≡ record { outcome = r .outcome; slice = now (w .exit); output = now (outcomes .exit) })
         × (r .tally ≡ countedAll t (batchOutcomes (now (w .entry)) node (now (numbers .entry)) (now (outcomes .entry)))) ⌝ }
 {
-    let r = batches::ask(w, node, numbers, outcomes);
-    match r {
-        Outcome::Refused(k) => Tallied {
-            outcome: Outcome::Refused(k),
-            tally: t,
-        },
-        Outcome::Answered(a) => Tallied {
-            outcome: Outcome::Answered(a),
-            tally: count_each(t, &outcomes[..], numbers.len()),
-        },
-    }
+    let outcome = batches::ask(w, node, numbers, outcomes);
+    let n = written(outcome, numbers.len());
+    let tally = count_each(t, &outcomes[..], n);
+    Tallied { outcome, tally }
 }
 
 pub(crate) fn tally_of(r: Tallied) -> Tally

@@ -68,16 +68,15 @@ place-size (Answered (LeaveTurnedAway hub)) = refl
 place-size (Answered (Joined hub)) = refl
 place-size (Answered (Left hub)) = refl
 
--- a list of six words, word by word
-pub word-by-word : (l : List ℕ) → length l ≡ placeSize → getD l 0 0 ∷ getD l 1 0 ∷ getD l 2 0 ∷ getD l 3 0 ∷ getD l 4 0 ∷ getD l 5 0 ∷ [] ≡ l
+-- an answer's five words, one by one
+pub word-by-word : (l : List ℕ) → length l ≡ 5 → getD l 0 0 ∷ getD l 1 0 ∷ getD l 2 0 ∷ getD l 3 0 ∷ getD l 4 0 ∷ [] ≡ l
 word-by-word [] e = absurd (omega arith)
 word-by-word (a ∷ []) e = absurd (omega arith)
 word-by-word (a ∷ b ∷ []) e = absurd (omega arith)
 word-by-word (a ∷ b ∷ c ∷ []) e = absurd (omega arith)
 word-by-word (a ∷ b ∷ c ∷ d ∷ []) e = absurd (omega arith)
-word-by-word (a ∷ b ∷ c ∷ d ∷ f ∷ []) e = absurd (omega arith)
-word-by-word (a ∷ b ∷ c ∷ d ∷ f ∷ g ∷ []) e = refl
-word-by-word (a ∷ b ∷ c ∷ d ∷ f ∷ g ∷ h ∷ l) e = absurd (omega arith)
+word-by-word (a ∷ b ∷ c ∷ d ∷ f ∷ []) e = refl
+word-by-word (a ∷ b ∷ c ∷ d ∷ f ∷ g ∷ l) e = absurd (omega arith)
 
 -- the output with these outcomes written from its first place on
 abbrev pub placed : List ℕ → List Outcome → ℕ → List ℕ
@@ -109,31 +108,46 @@ all-written w hub numbers out i z o e ez eo =
     ∙ ap (λ y. record { outcome = Answered Quiet; slice = y; output = placed out (upTo w hub numbers i .outcomes) i }) (sym ez)
     ∙ ap (λ y. record { outcome = Answered Quiet; slice = z; output = y }) (sym eo)
 
--- One number more: z is the slice that the first i left, and c what the question on it gives.
-module _ (w : List ℕ) (v : Valid w) (hub : ℕ) (numbers : List ℕ) (i : ℕ) (l : i < length numbers) (z : List ℕ) (e : z ≡ upTo w hub numbers i .slice)
-    (c : Called) (said : written z (ask (read z) hub (getD numbers i 0)) ≡ c) where
+-- What one turn leaves, which asks number i: the slice, and the output with its outcome in place i.
+pub record Turned : Type 0 where
+  pub slice : List ℕ
+  pub output : List ℕ
+
+abbrev pub turned : List ℕ → ℕ → Called → Turned
+turned out i c = record { slice = c .slice; output = splice out (placeSize * i) (placeWords (c .outcome)) }
+
+unfoldable pub turn : List ℕ → ℕ → List ℕ → List ℕ → ℕ → Turned
+turn w hub numbers out i = turned out i (stepCall w 0 hub (getD numbers i 0))
+
+-- On a valid record it is the question's own meaning.
+pub turn-is : (w : List ℕ) → Valid w → (hub : ℕ) (numbers out : List ℕ) (i : ℕ) (c : Called) → written w (ask (read w) hub (getD numbers i 0)) ≡ c
+    → turn w hub numbers out i ≡ turned out i c
+unfolding turn
+turn-is w v hub numbers out i c e = ap (turned out i) (ask-valid w v hub (getD numbers i 0) ∙ e)
+
+-- A turn on what the first i numbers left gives what one more leaves.
+module _ (w : List ℕ) (hub : ℕ) (numbers out : List ℕ) (i : ℕ) (l : i < length numbers) (z o : List ℕ) (e : z ≡ upTo w hub numbers i .slice)
+    (f : o ≡ placed out (upTo w hub numbers i .outcomes) i) (z′ o′ : List ℕ) (said : turn z hub numbers o i ≡ record { slice = z′; output = o′ }) where
   abbrev so : Asked
   so = upTo w hub numbers i
 
-  asked : stepCall (so .slice) 0 hub (getD numbers i 0) ≡ c
-  asked =
-      ask-valid (so .slice) (each-valid w v hub (take i numbers) .valid) hub (getD numbers i 0)
-      ∙ ap (λ y. written y (ask (read y) hub (getD numbers i 0))) (sym e) ∙ said
-
-  next : upTo w hub numbers (i + 1) ≡ behind so c
+  next : upTo w hub numbers (i + 1) ≡ behind so (stepCall (so .slice) 0 hub (getD numbers i 0))
   next =
-      ap (λ k. askEach w hub (take k numbers)) (add-one i) ∙ ap (askEach w hub) (take-suc numbers i 0 l)
-      ∙ ask-last w hub (take i numbers) (getD numbers i 0) ∙ ap (behind so) asked
+      ap (λ k. askEach w hub (take k numbers)) (add-one i) ∙ ap (askEach w hub) (take-suc numbers i 0 l) ∙ ask-last w hub (take i numbers) (getD numbers i 0)
 
-  pub next-slice : c .slice ≡ upTo w hub numbers (i + 1) .slice
-  next-slice = sym (ap (λ y. y .slice) next)
+  turned-next : turn z hub numbers o i ≡ record { slice = upTo w hub numbers (i + 1) .slice; output = placed out (upTo w hub numbers (i + 1) .outcomes) (i + 1) }
+  unfolding turn
+  turned-next =
+      ap (λ y. turn y hub numbers o i) e ∙ ap (λ y. turn (so .slice) hub numbers y i) f
+      ∙ ap (λ y. record { slice = stepCall (so .slice) 0 hub (getD numbers i 0) .slice; output = y })
+      (place-next out (so .outcomes) (stepCall (so .slice) 0 hub (getD numbers i 0) .outcome) i (length-asked w hub (take i numbers) ∙ length-take-le i numbers (omega arith)))
+      ∙ ap (λ y. record { slice = y .slice; output = placed out (y .outcomes) (i + 1) }) (sym next)
 
-  pub next-output : (out o : List ℕ) → o ≡ placed out (so .outcomes) i
-      → splice o (placeSize * i) (placeWords (c .outcome)) ≡ placed out (upTo w hub numbers (i + 1) .outcomes) (i + 1)
-  next-output out o f =
-      ap (λ y. splice y (placeSize * i) (placeWords (c .outcome))) f
-      ∙ place-next out (so .outcomes) (c .outcome) i (length-asked w hub (take i numbers) ∙ length-take-le i numbers (omega arith))
-      ∙ ap (λ y. placed out (y .outcomes) (i + 1)) (sym next)
+  pub next-slice : z′ ≡ upTo w hub numbers (i + 1) .slice
+  next-slice = ap (λ (y : Turned). y .slice) (sym said ∙ turned-next)
+
+  pub next-output : o′ ≡ placed out (upTo w hub numbers (i + 1) .outcomes) (i + 1)
+  next-output = ap (λ (y : Turned). y .output) (sym said ∙ turned-next)
 
 -- The questions of the call, in the words' terms.
 module _ {A : Type 0} (w numbers out : List ℕ) (no-result : ℕ → A) (rest : A) where
