@@ -137,6 +137,7 @@ int main(void)
         guard = guards[k];
         foundings();
         ranges();
+        routes();
         sheets();
         price_cards();
         step_at_each_length();

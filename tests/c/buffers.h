@@ -42,10 +42,11 @@ int unchanged(const struct buffer *b, const uint8_t *content, size_t content_len
 #define LENGTHS 12
 extern const size_t lengths[LENGTHS];
 
-/* The tests of the calls that found a ring (founding.c), of ranges (ranges.c), of the calls on an office sheet (sheet.c), and of those with price
- * cards (cards.c). */
+/* The tests of the calls that found a ring (founding.c), of ranges (ranges.c), of a route's questions (routes.c), of the calls on an office sheet
+ * (sheet.c), and of those with price cards (cards.c). */
 void foundings(void);
 void ranges(void);
+void routes(void);
 void sheets(void);
 void price_cards(void);
 

@@ -152,10 +152,16 @@ int take_ring(struct input *in, struct ring *ring)
     return 1;
 }
 
-/* Hub i's identifier, where the record may say anything. */
-static uint32_t identifier(const struct ring *ring, uint32_t i)
+uint32_t hubs_of(const struct ring *ring)
 {
-    return ring_word(ring->bytes, 4 + 7 * (size_t)(i % 64));
+    uint32_t n = ring_word(ring->bytes, 1);
+    return n == 0 || n > 64 ? 64 : n;
+}
+
+uint32_t take_beside(struct input *in, const struct ring *ring)
+{
+    uint32_t near = take_byte(in);
+    return ring_word(ring->bytes, 4 + 7 * (size_t)(near % hubs_of(ring))) + near / 64 - 1;
 }
 
 /* The link of a waiting message, chosen by its place, so that most deliveries find one. */
@@ -170,9 +176,8 @@ static void choose_link(struct input *in, const struct ring *ring, struct comman
 
 unsigned take_commands(struct input *in, const struct ring *ring, struct command *c)
 {
-    uint32_t n = ring_word(ring->bytes, 1), near;
+    uint32_t n = hubs_of(ring);
     if (in->left == 0) return 0;
-    if (n == 0 || n > 64) n = 64;
     switch (take_byte(in) % 8) {
     case 0: /* any hub is asked for any number */
         *c = (struct command){RING_ASK, take_byte(in), 0};
@@ -186,8 +191,7 @@ unsigned take_commands(struct input *in, const struct ring *ring, struct command
     case 3: choose_link(in, ring, c); return 1;
     case 4: /* a number at a hub's identifier or beside it, asked some times */
         *c = (struct command){RING_ASK, take_byte(in) % n, 0};
-        near = take_byte(in);
-        c->y = identifier(ring, near % n) + near / 64 - 1;
+        c->y = take_beside(in, ring);
         return 1 + take_byte(in);
     case 5: /* any three numbers */
         c->operation = take_word(in);

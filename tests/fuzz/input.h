@@ -44,6 +44,10 @@ void take_bytes(struct input *in, uint8_t *bytes, size_t most);
 /* All of it. Answers whether there is a record to go on with: not after a fresh call that was refused. */
 int take_ring(struct input *in, struct ring *ring);
 
+/* How many hubs there are; 64 where the record says what cannot be. And a number at one's identifier or beside it. */
+uint32_t hubs_of(const struct ring *ring);
+uint32_t take_beside(struct input *in, const struct ring *ring);
+
 /* Takes the next commands, at most 256 that are alike; answers how often *c is to be given, 0 at the end of the input. */
 unsigned take_commands(struct input *in, const struct ring *ring, struct command *c);
 

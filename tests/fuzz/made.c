@@ -14,20 +14,22 @@ void must(int holds, const char *what)
     abort();
 }
 
-static unsigned long long compared, returned[TOLD][RING_CARDS_FULL + 1], made[TOLD];
+#define RETURNS (RING_PLACES_SHORT + 1) /* one more than the highest */
+
+static unsigned long long compared, returned[TOLD][RETURNS], made[TOLD];
 
 static void say_compared(void)
 {
     static const char *const names[TOLD] = {
         "ring_fresh",       "ring_fresh_by",       "ring_sheet_read", "ring_sheet_write",
         "ring_fresh_cards", "ring_fresh_by_cards", "ring_step_cards", "ring_step_cards of the only member",
-        "ring_offer",
+        "ring_offer",       "ring_route",          "ring_route's questions",
     };
     fprintf(stderr, "calls compared: %llu\n", compared);
     for (unsigned call = 0; call < TOLD; call++) {
         if (made[call] == 0) continue;
         fprintf(stderr, "calls of %s by return", names[call]);
-        for (unsigned code = 0; code <= RING_CARDS_FULL; code++)
+        for (unsigned code = 0; code < RETURNS; code++)
             if (returned[call][code] != 0) fprintf(stderr, ", %u: %llu", code, returned[call][code]);
         fprintf(stderr, "\n");
     }

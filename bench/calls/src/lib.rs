@@ -20,12 +20,14 @@ use ring_tuned::bytes::in_place;
 use ring_tuned::{Fields, Ranges};
 
 mod cards;
+mod routes;
 mod sheet;
 
 pub use cards::{
     in_place_offer, in_place_step_cards, plain_offer, plain_one_offer, plain_one_step_cards,
     plain_step_cards, tuned_offer, tuned_step_cards,
 };
+pub use routes::{by_ranges_route, in_place_route, plain_one_route, plain_route, tuned_route};
 pub use sheet::{csv_sheet_read, csv_sheet_write};
 
 /// The step and the owner query of a model that takes the lent bytes as this

@@ -14,6 +14,7 @@ mod programs;
 mod ratios;
 mod records;
 mod report;
+mod routes;
 mod sheet;
 mod turns;
 
@@ -63,12 +64,13 @@ fn main() -> io::Result<()> {
         }
     };
     let table = points(effort.rounds);
+    let routes = routes::measure(effort.rounds);
     let programs = programs::measure(effort.frames, effort.runs)?;
     let cards = cards::measure(effort.card_rounds);
     let sheets = sheet::measure(effort.sheet_rounds);
     let document = format!("{}/BENCH.md", effort.folder);
     let older = fs::read_to_string(&document).unwrap_or_default();
-    let text = report::text(&table, &programs, &cards, &sheets, &older);
+    let text = report::text(&table, &routes, &programs, &cards, &sheets, &older);
     print!("{text}");
     let panels = sweeps(effort.rounds);
     fs::write(document, text)?;

@@ -4,6 +4,7 @@ use std::fmt::Write;
 
 use crate::contestants::{BY_RANGES, IN_PLACE, PLAIN, PLAIN_ONE, TUNED};
 use crate::measure::Figures;
+use crate::turns::Time;
 
 /// The engine against one other.
 pub struct Ratio {
@@ -31,9 +32,9 @@ impl Ratio {
         }
     }
 
-    /// At one point.
-    pub fn marked(&self, figures: &Figures) -> String {
-        marked(figures.times[self.other].engine, self.target)
+    /// At one point, by its times.
+    pub fn marked(&self, times: &[Time]) -> String {
+        marked(times[self.other].engine, self.target)
     }
 
     fn summary(&self, table: &[Figures]) -> String {

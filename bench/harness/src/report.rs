@@ -8,11 +8,12 @@ use crate::kept::marked;
 use crate::measure::Figures;
 use crate::programs::{Programs, PROGRAMS};
 use crate::ratios::{span, summary, within, RATIOS};
-use crate::{cards, sheet};
+use crate::{cards, routes, sheet};
 
 /// The whole document. What an older one has in its marked part stays.
 pub fn text(
     table: &[Figures],
+    routes: &[routes::Figures],
     programs: &Programs,
     cards: &[cards::Figures],
     sheets: &[sheet::Figures],
@@ -24,6 +25,7 @@ pub fn text(
     text += &reading(table);
     text += METHOD;
     text += &calls(table);
+    text += &routes::section(routes);
     text += &ringrun(programs);
     text += &cards::section(cards);
     text += &sheet::section(sheets);
@@ -122,7 +124,7 @@ fn calls(table: &[Figures]) -> String {
             let _ = write!(text, " {:.0} / {:.0} |", time.best, time.median);
         }
         for ratio in &RATIOS {
-            let _ = write!(text, " {} |", ratio.marked(figures));
+            let _ = write!(text, " {} |", ratio.marked(&figures.times));
         }
         text.push('\n');
     }

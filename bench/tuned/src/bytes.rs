@@ -10,8 +10,10 @@ use crate::record::RECORD_WORDS;
 use crate::refusal;
 
 mod cards;
+mod routes;
 
 pub use cards::{offer, step_cards, BOOK_BYTES};
+pub use routes::route;
 
 /// Bytes of a step's answer.
 pub const ANSWER_BYTES: usize = 20;
@@ -75,6 +77,7 @@ pub mod in_place {
     use super::*;
 
     pub use super::cards::in_place::{offer, step_cards};
+    pub use super::routes::in_place::route;
 
     /// A step.
     pub fn step<C: Check>(

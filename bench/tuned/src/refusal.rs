@@ -40,3 +40,7 @@ pub const REVISION_LOWER: u32 = 22;
 pub const PRICE_DIFFERS: u32 = 23;
 /// A new machine, and 512 cards are kept.
 pub const CARDS_FULL: u32 = 24;
+/// More than 64 numbers in a route (document 02, 2026-06).
+pub const ROUTE_LONG: u32 = 25;
+/// Fewer places for outcomes than numbers.
+pub const PLACES_SHORT: u32 = 26;

@@ -101,13 +101,31 @@ pub(crate) fn run<W: Word>(
 
 /// 0: a ticket, then an answer at once or a LOOKUP.
 fn ask<W: Word>(record: &mut Record<W>, x: u32, number: u32) -> Result<Answer, u32> {
+    let row = asked_row(record, x)?;
+    ask_at(record, x, &row, number)
+}
+
+/// The row of a hub that can be asked.
+pub(crate) fn asked_row<W: Word>(record: &Record<W>, x: u32) -> Result<Row, u32> {
     let row = Row::read(record, x);
-    if !row.in_ring() {
-        return Err(refusal::NOT_IN_RING);
+    if row.in_ring() {
+        Ok(row)
+    } else {
+        Err(refusal::NOT_IN_RING)
     }
+}
+
+/// A question at a hub that has this row, which it leaves as it is.
+#[inline]
+pub(crate) fn ask_at<W: Word>(
+    record: &mut Record<W>,
+    x: u32,
+    row: &Row,
+    number: u32,
+) -> Result<Answer, u32> {
     let ticket = record[ASKED].get();
     let asked = ticket.checked_add(1).ok_or(refusal::TICKETS_USED_UP)?;
-    let answer = match next_hub(record, &row, None, number) {
+    let answer = match next_hub(record, row, None, number) {
         None => Answer {
             kind: kind::FOUND,
             hub: x,

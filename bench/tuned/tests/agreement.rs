@@ -7,7 +7,6 @@ mod common;
 mod shared;
 
 use common::driver::{command, identifiers, Mix, BUSY, CALM, FLOODED, SWAPPING};
-use common::records::any_state;
 use ring_model::bytes as plain;
 use ring_model::generator::Generator;
 use ring_model::record::State;
@@ -15,6 +14,7 @@ use ring_model::{Command, RECORD_WORDS};
 use ring_tuned::bytes as tuned;
 use ring_tuned::bytes::in_place;
 use ring_tuned::{Check, Fields, Ranges};
+use shared::records::{any_words, damage};
 use shared::{bytes_of, fours_of, words_of, BEFORE};
 
 /// One step of every model on the same record; the record afterwards.
@@ -135,14 +135,6 @@ fn founding() {
     assert_eq!(ring_tuned::fresh_by(&mut short, &[1, 1], 2), Err(1));
 }
 
-/// A record from anywhere among the well-formed ones.
-fn any_words(generator: &mut Generator) -> (State, Vec<u32>) {
-    let state = any_state(generator);
-    let mut words = vec![0; RECORD_WORDS];
-    state.write(&mut words);
-    (state, words)
-}
-
 #[test]
 fn well_formed_records() {
     let mut generator = Generator::new(100);
@@ -153,40 +145,13 @@ fn well_formed_records() {
     }
 }
 
-/// A word of the parts that are in use, or any; values at the edges more often.
-fn damage(generator: &mut Generator, words: &mut [u32]) {
-    let (n, m, asked) = (words[1], words[2], words[3]);
-    let place = match generator.below(8) {
-        0 => generator.below(4),
-        1 => generator.below(RECORD_WORDS as u32),
-        2 => 4 + 7 * n + generator.below(7),
-        3 => 452 + 6 * m + generator.below(6),
-        4 | 5 => 4 + generator.below(7 * n),
-        _ => 452 + generator.below(6 * m),
-    };
-    let place = place.min(RECORD_WORDS as u32 - 1) as usize;
-    let other = words[4 + 7 * generator.below(n) as usize];
-    words[place] = match generator.below(10) {
-        0 => generator.next_u32(),
-        1 => n - generator.below(2),
-        2 => asked.wrapping_sub(generator.below(2)),
-        3 => 255 - generator.below(2),
-        4 => 65_535 + generator.below(2),
-        5 => other,
-        6 => words[place] ^ 1 << generator.below(32),
-        _ => generator.below(17),
-    };
-}
-
 #[test]
 fn damaged_records() {
     let mut generator = Generator::new(200);
     for _ in 0..60_000 {
         let (state, mut words) = any_words(&mut generator);
         for _ in 0..=generator.below(2) {
-            if (1..=64).contains(&words[1]) && words[2] <= 256 {
-                damage(&mut generator, &mut words);
-            }
+            damage(&mut generator, &mut words);
         }
         agreed_step(&words, command(&mut generator, BUSY, &state));
         agreed_owner(&words, generator.next_u32());

@@ -12,6 +12,7 @@ use ring_model::clockwise::distance;
 use ring_model::command::ASK;
 use ring_model::kinds::{as_required, LOOKUP};
 use ring_model::record::{State, INSIDE, WANTING_TO_LEAVE};
+use ring_model::routes::Outcome;
 use ring_model::{Answer, Command};
 
 /// The ledger of a run, and what its calls have added up to.
@@ -68,6 +69,16 @@ impl Claims {
             ENTERED => self.members |= self.bit(answer.hub)?,
             GONE => self.members &= !self.bit(answer.hub)?,
             _ => {}
+        }
+        Ok(())
+    }
+
+    /// Takes in a route at this node: those of its questions that were accepted, in its order.
+    pub fn take_in_route(&mut self, node: u32, asked: &[(u32, Outcome)]) -> Result<(), String> {
+        for (key, outcome) in asked {
+            if let Ok(answer) = outcome {
+                self.take_in(Command::new(ASK, node, *key), answer)?;
+            }
         }
         Ok(())
     }

@@ -1,94 +1,12 @@
-//! The engine's ten C calls, as functions on slices. This is the only file with `unsafe`.
+//! The engine's eleven C calls, as functions on slices. This is the only file with `unsafe`.
 #![allow(unsafe_code)]
 
-extern "C" {
-    fn ring_fresh(
-        words: *mut u8,
-        words_len: usize,
-        identifiers: *const u8,
-        identifiers_len: usize,
-    ) -> u32;
-    fn ring_fresh_by(
-        words: *mut u8,
-        words_len: usize,
-        identifiers: *const u8,
-        identifiers_len: usize,
-        founder: u32,
-    ) -> u32;
-    fn ring_step(
-        words: *mut u8,
-        words_len: usize,
-        operation: u32,
-        x: u32,
-        y: u32,
-        out: *mut u8,
-        out_len: usize,
-    ) -> u32;
-    fn ring_owner(
-        words: *const u8,
-        words_len: usize,
-        number: u32,
-        out: *mut u8,
-        out_len: usize,
-    ) -> u32;
-    fn ring_fresh_cards(
-        words: *mut u8,
-        words_len: usize,
-        cards: *mut u8,
-        cards_len: usize,
-        identifiers: *const u8,
-        identifiers_len: usize,
-    ) -> u32;
-    fn ring_fresh_by_cards(
-        words: *mut u8,
-        words_len: usize,
-        cards: *mut u8,
-        cards_len: usize,
-        identifiers: *const u8,
-        identifiers_len: usize,
-        founder: u32,
-    ) -> u32;
-    fn ring_step_cards(
-        words: *mut u8,
-        words_len: usize,
-        cards: *mut u8,
-        cards_len: usize,
-        operation: u32,
-        x: u32,
-        y: u32,
-        out: *mut u8,
-        out_len: usize,
-    ) -> u32;
-    fn ring_offer(
-        words: *const u8,
-        words_len: usize,
-        cards: *mut u8,
-        cards_len: usize,
-        machine: u32,
-        revision: u32,
-        price: u32,
-    ) -> u32;
-    fn ring_sheet_read(
-        text: *const u8,
-        text_len: usize,
-        identifiers: *mut u8,
-        identifiers_len: usize,
-        names: *mut u8,
-        names_len: usize,
-        counts: *mut u8,
-        counts_len: usize,
-    ) -> u32;
-    fn ring_sheet_write(
-        names: *const u8,
-        names_len: usize,
-        identifiers: *const u8,
-        identifiers_len: usize,
-        text: *mut u8,
-        text_len: usize,
-        counts: *mut u8,
-        counts_len: usize,
-    ) -> u32;
-}
+mod declared;
+
+use declared::{
+    ring_fresh, ring_fresh_by, ring_fresh_by_cards, ring_fresh_cards, ring_offer, ring_owner,
+    ring_route, ring_sheet_read, ring_sheet_write, ring_step, ring_step_cards,
+};
 
 /// Founds a ring by the smallest identifier.
 pub fn fresh(words: &mut [u8], identifiers: &[u8]) -> u32 {
@@ -184,6 +102,22 @@ pub fn offer(words: &[u8], cards: &mut [u8], [machine, revision, price]: [u32; 3
             machine,
             revision,
             price,
+        )
+    }
+}
+
+/// Asks a list of numbers at one hub.
+pub fn route(words: &mut [u8], hub: u32, numbers: &[u8], outcomes: &mut [u8]) -> u32 {
+    // SAFETY: as for fresh, of three slices.
+    unsafe {
+        ring_route(
+            words.as_mut_ptr(),
+            words.len(),
+            hub,
+            numbers.as_ptr(),
+            numbers.len(),
+            outcomes.as_mut_ptr(),
+            outcomes.len(),
         )
     }
 }

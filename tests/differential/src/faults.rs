@@ -3,25 +3,23 @@
 
 use std::cell::Cell;
 
-use ring_model::bytes::{ANSWER_BYTES, NO_REFUSAL, OWNER_BYTES};
-use ring_model::command::DELIVER;
-use ring_model::kinds::LOOKUP;
+use ring_model::bytes::{NO_REFUSAL, OWNER_BYTES};
 use ring_model::queries::holds;
-use ring_model::record::{message_start, State};
-use ring_model::refusal::{
-    LINK_EMPTY, NOT_AS_REQUIRED, NOT_WELL_FORMED, OUTPUT_SHORT, RECORD_SHORT,
-};
+use ring_model::record::State;
+use ring_model::refusal::NOT_AS_REQUIRED;
 use ring_model::Answer;
 
-use crate::calls::{answer_of, put_word, word_at, words_of, Calls, ENGINE, RECORD_BYTES};
-use crate::cards::wrong;
+use crate::calls::{put_word, words_of, Calls, ENGINE};
+use crate::cards;
 use crate::engine;
 use crate::filters::{FILTERS, NO_FAULT};
 use crate::parts::PARTS;
 use crate::reached::Reached;
+use crate::routes;
 use crate::sheets::wrong::{same_read, same_write, READS, WRITES};
 use crate::wrong_foundings::{NAMED, UNNAMED};
 use crate::wrong_ranges::{same_owner, OWNERS};
+use crate::wrong_steps::STEPS;
 
 /// A seldom fault shows in one of so many calls.
 const SELDOM: u64 = 3000;
@@ -35,7 +33,7 @@ thread_local! {
 }
 
 /// Whether a seldom fault shows in this call.
-fn seldom() -> bool {
+pub fn seldom() -> bool {
     one_in(SELDOM)
 }
 
@@ -55,24 +53,6 @@ pub struct Fault {
     calls: Calls,
 }
 
-type Step = fn(&mut [u8], u32, u32, u32, &mut [u8]) -> u32;
-
-/// Wrong steps: what is wrong, the part that must see it, and the step.
-const STEPS: [(&str, &str, Step); 12] = [
-    ("an answer's last byte differs, seldom", "runs", answer_differs),
-    ("a byte of the record differs, seldom", "runs", record_differs),
-    ("a byte behind the record is written, seldom", "runs", writes_behind),
-    ("a refused step writes its output, seldom", "runs", writes_when_refused),
-    ("an accepted step writes no answer, seldom", "runs", writes_no_answer),
-    ("a message that waits is refused, seldom", "runs", refuses_delivery),
-    ("9 where it should be 10", "unreachable", link_empty),
-    ("hops go on behind 65535", "unreachable", hops_go_on),
-    ("a message to itself counts as a hop", "runs", own_message_counts),
-    ("no link counts as a hop", "runs", no_link_counts),
-    ("the record's last word is not looked at", "damaged", last_word_unseen),
-    ("17 is asked after 1", "lengths", output_asked_late),
-];
-
 /// All planted faults.
 pub fn faults() -> Vec<Fault> {
     let fault = |name, part, calls| Fault { name, part, calls };
@@ -81,8 +61,10 @@ pub fn faults() -> Vec<Fault> {
     let ranged = |&(name, owner)| fault(name, "unreachable", Calls { owner, ..ENGINE });
     let ranges = OWNERS.iter().map(ranged);
     let others = other_faults().into_iter().chain(FILTERS.iter().map(filtered)).chain(ranges);
-    let cards = wrong::faults().into_iter().map(|(name, part, calls)| fault(name, part, calls));
-    steps.chain(wrong_foundings()).chain(wrong_sheets()).chain(cards).chain(others).collect()
+    let routes = routes::wrong::faults();
+    let called = cards::wrong::faults().into_iter().chain(routes);
+    let called = called.map(|(name, part, calls)| fault(name, part, calls));
+    steps.chain(wrong_foundings()).chain(wrong_sheets()).chain(called).chain(others).collect()
 }
 
 /// Wrong foundings of both forms.
@@ -132,68 +114,27 @@ impl Fault {
     }
 }
 
-/// That `inspect` passes behind a filter that changes nothing, and the calls with sheets, cards and
-/// ranges behind what makes them wrong elsewhere: the faults are seen there, not their wrapping.
-pub fn wrappings_pass(seed: u64) -> [(&'static str, bool); 5] {
+/// That `inspect` passes behind a filter that changes nothing, and the calls with sheets, cards,
+/// ranges and routes behind what makes them wrong elsewhere: the faults are seen there, not their
+/// wrapping.
+pub fn wrappings_pass(seed: u64) -> [(&'static str, bool); 9] {
     let filter = Calls { inspect: NO_FAULT, ..ENGINE };
     let sheets = Calls { sheet_read: same_read, sheet_write: same_write, ..ENGINE };
     let owner = Calls { owner: same_owner, ..ENGINE };
-    let cards = "calls with cards that change nothing are not found wrong";
+    let with_cards = "calls with cards that change nothing are not found wrong";
+    let made_of_asks = "routes that are made of asks are not found wrong";
     [
         ("a filter that changes nothing is not found wrong", "inspect", filter),
         ("sheet calls that change nothing are not found wrong", "sheets", sheets),
         ("owners by the right range are not found wrong", "unreachable", owner),
-        (cards, "cards", wrong::same()),
-        (cards, "damaged_cards", wrong::same()),
+        (with_cards, "cards", cards::wrong::same()),
+        (with_cards, "damaged_cards", cards::wrong::same()),
+        (made_of_asks, "routes", routes::wrong::same()),
+        (made_of_asks, "any_routes", routes::wrong::same()),
+        (made_of_asks, "damaged_routes", routes::wrong::same()),
+        (made_of_asks, "route_edges", routes::wrong::same()),
     ]
     .map(|(name, part, calls)| (name, !Fault { name, part, calls }.is_seen_within(seed, UNFAULTED)))
-}
-
-fn answer_differs(words: &mut [u8], operation: u32, x: u32, y: u32, out: &mut [u8]) -> u32 {
-    let code = engine::step(words, operation, x, y, out);
-    if code == NO_REFUSAL && seldom() {
-        out[ANSWER_BYTES - 1] ^= 1;
-    }
-    code
-}
-
-fn record_differs(words: &mut [u8], operation: u32, x: u32, y: u32, out: &mut [u8]) -> u32 {
-    let code = engine::step(words, operation, x, y, out);
-    if seldom() {
-        words[RECORD_BYTES - 1] ^= 0x80;
-    }
-    code
-}
-
-fn writes_behind(words: &mut [u8], operation: u32, x: u32, y: u32, out: &mut [u8]) -> u32 {
-    let code = engine::step(words, operation, x, y, out);
-    if words.len() > RECORD_BYTES && seldom() {
-        words[RECORD_BYTES] ^= 1;
-    }
-    code
-}
-
-fn writes_when_refused(words: &mut [u8], operation: u32, x: u32, y: u32, out: &mut [u8]) -> u32 {
-    let code = engine::step(words, operation, x, y, out);
-    if code != NO_REFUSAL && seldom() {
-        out[0] ^= 1;
-    }
-    code
-}
-
-fn writes_no_answer(words: &mut [u8], operation: u32, x: u32, y: u32, out: &mut [u8]) -> u32 {
-    if seldom() {
-        return engine::step(words, operation, x, y, &mut [0; ANSWER_BYTES]);
-    }
-    engine::step(words, operation, x, y, out)
-}
-
-/// Only on the copies on which deliveries are tried: they alone have no byte too many.
-fn refuses_delivery(words: &mut [u8], operation: u32, x: u32, y: u32, out: &mut [u8]) -> u32 {
-    if operation == 3 && words.len() == RECORD_BYTES && seldom() {
-        return NOT_AS_REQUIRED;
-    }
-    engine::step(words, operation, x, y, out)
 }
 
 fn refuses_words(words: &mut [u32], operation: u32, x: u32, y: u32) -> Result<Answer, u32> {
@@ -201,69 +142,6 @@ fn refuses_words(words: &mut [u32], operation: u32, x: u32, y: u32) -> Result<An
         return Err(NOT_AS_REQUIRED);
     }
     (ENGINE.word_step)(words, operation, x, y)
-}
-
-fn link_empty(words: &mut [u8], operation: u32, x: u32, y: u32, out: &mut [u8]) -> u32 {
-    match engine::step(words, operation, x, y, out) {
-        NOT_AS_REQUIRED => LINK_EMPTY,
-        code => code,
-    }
-}
-
-fn hops_go_on(words: &mut [u8], operation: u32, x: u32, y: u32, out: &mut [u8]) -> u32 {
-    let code = engine::step(words, operation, x, y, out);
-    if code == NO_REFUSAL && answer_of(out).hops == 65535 {
-        put_word(out, 4, 65536);
-    }
-    code
-}
-
-fn own_message_counts(words: &mut [u8], operation: u32, x: u32, y: u32, out: &mut [u8]) -> u32 {
-    with_hops(words, [operation, x, y], out, |hops| hops + u32::from(x == y))
-}
-
-fn no_link_counts(words: &mut [u8], operation: u32, x: u32, y: u32, out: &mut [u8]) -> u32 {
-    with_hops(words, [operation, x, y], out, |hops| hops - u32::from(x != y))
-}
-
-/// A step that gives other hops to a LOOKUP which it delivers and which is sent on: as many
-/// messages wait as before, and the last is a LOOKUP.
-fn with_hops(
-    words: &mut [u8],
-    [operation, x, y]: [u32; 3],
-    out: &mut [u8],
-    other: impl Fn(u32) -> u32,
-) -> u32 {
-    let waited = word_at(words, 2);
-    let code = engine::step(words, operation, x, y, out);
-    if code == NO_REFUSAL && operation == DELIVER && word_at(words, 2) == waited {
-        let last = message_start(waited as usize - 1);
-        if word_at(words, last) == LOOKUP {
-            put_word(words, last + 5, other(word_at(words, last + 5)));
-        }
-    }
-    code
-}
-
-/// What lies in the last word does not count.
-fn last_word_unseen(words: &mut [u8], operation: u32, x: u32, y: u32, out: &mut [u8]) -> u32 {
-    let code = engine::step(words, operation, x, y, out);
-    if code != NOT_WELL_FORMED {
-        return code;
-    }
-    let last = RECORD_BYTES / 4 - 1;
-    let word = word_at(words, last);
-    put_word(words, last, 0);
-    let code = engine::step(words, operation, x, y, out);
-    put_word(words, last, word);
-    code
-}
-
-fn output_asked_late(words: &mut [u8], operation: u32, x: u32, y: u32, out: &mut [u8]) -> u32 {
-    match engine::step(words, operation, x, y, out) {
-        OUTPUT_SHORT if words.len() < RECORD_BYTES => RECORD_SHORT,
-        code => code,
-    }
 }
 
 fn highest_holder(words: &[u8], key: u32, out: &mut [u8]) -> u32 {

@@ -1,7 +1,8 @@
 //! The engine beside the model of documents 01 and 02: the C calls on lent bytes, `ringrun` and
-//! `inspect`, on random and on hostile input, price cards and office sheets among it. Every
+//! `inspect`, on random and on hostile input, price cards, routes and office sheets among it. Every
 //! returned number, every byte of record, cards and output, and the bytes around them are compared;
-//! runs from fresh are held to demand 3 as well, and those with cards to what is claimed of cards.
+//! runs from fresh are held to demand 3 as well, those with cards to what is claimed of cards, and a
+//! route to what its questions come to one by one.
 //!
 //! Usage, from the repository's folder: `differential SEED SECONDS`, or `differential SEED 0 PART
 //! BATCH` to run one batch again.
@@ -15,6 +16,7 @@ mod claims;
 mod damaged;
 mod driver;
 mod engine;
+mod enough;
 mod expected;
 mod faults;
 mod filters;
@@ -32,6 +34,7 @@ mod parts;
 mod program;
 mod reached;
 mod ring;
+mod routes;
 mod runs;
 mod schedule;
 mod scripts;
@@ -43,6 +46,7 @@ mod unreachable;
 mod wrong_claims;
 mod wrong_foundings;
 mod wrong_ranges;
+mod wrong_steps;
 
 use std::env;
 use std::process::ExitCode;
@@ -50,19 +54,11 @@ use std::time::{Duration, Instant};
 
 use crate::calls::ENGINE;
 use crate::cards::counts::CardCounts;
+use crate::enough::{reached_all, too_few};
 use crate::parts::PARTS;
 use crate::reached::Reached;
 use crate::schedule::{run_all, Report, LONG};
 use crate::sheets::counts::Sheets;
-
-/// From so many calls on, so many lines of `inspect`, so many calls with cards and so many texts
-/// that might be sheets, everything must have been reached.
-const ENOUGH: u64 = 1_000_000;
-const ENOUGH_LINES: u64 = 150_000;
-const ENOUGH_WITH_CARDS: u64 = 100_000;
-const ENOUGH_TEXTS: u64 = 2_000_000;
-// A long run must make so many calls. A shorter one may make fewer, and then says that it skips
-// the test of what was reached.
 
 /// Tests that passed and failed.
 #[derive(Default)]
@@ -127,11 +123,12 @@ fn all(seed: u64, seconds: u64) -> ExitCode {
         score.note(report.differences.is_empty() && report.batches > 0);
     }
     println!(
-        "in all: {} calls, {:.0} a second, {} lines, {} calls with cards, and {} texts",
+        "in all: {} calls, {:.0} a second, {} lines, {} calls with cards, {} routes, and {} texts",
         sum.calls,
         sum.calls as f64 / took,
         sum.lines,
         sum.cards.calls,
+        sum.routes.calls,
         sum.sheets.texts
     );
     print!("reached:\n{}", sum.table());
@@ -142,39 +139,12 @@ fn all(seed: u64, seconds: u64) -> ExitCode {
     score.end()
 }
 
-/// What there was too little of to have reached all.
-fn too_few(sum: &Reached) -> Option<String> {
-    if sum.calls < ENOUGH {
-        return Some(format!("fewer than {ENOUGH} calls were made"));
-    }
-    if sum.inspected.lines < ENOUGH_LINES {
-        return Some(format!("inspect answered fewer than {ENOUGH_LINES} lines"));
-    }
-    if sum.cards.calls < ENOUGH_WITH_CARDS {
-        return Some(format!("fewer than {ENOUGH_WITH_CARDS} calls with cards were made"));
-    }
-    let few = sum.sheets.texts < ENOUGH_TEXTS;
-    few.then(|| format!("fewer than {ENOUGH_TEXTS} texts were read as sheets"))
-}
-
-/// Whether there were enough calls, and nothing was left out by all of them.
-fn reached_all(sum: &Reached) -> bool {
-    if let Some(what) = too_few(sum) {
-        println!("FAILED: {what}");
-        return false;
-    }
-    let missing = sum.missing();
-    if !missing.is_empty() {
-        println!("FAILED: never reached: {}", missing.join(", "));
-    }
-    missing.is_empty()
-}
-
 /// One part's line.
 fn line(name: &str, report: &Report) -> String {
     let Report { reached, batches, time, .. } = report;
     let CardCounts { calls: with_cards, tried: tried_with_cards, .. } = reached.cards;
-    let (calls, tried) = (reached.calls + with_cards, reached.tried + tried_with_cards);
+    let calls = reached.calls + with_cards + reached.routes.calls;
+    let tried = reached.tried + tried_with_cards;
     let lines = reached.lines;
     let Sheets { texts, lists, .. } = reached.sheets;
     let rate = (calls + lines + texts + lists) as f64 / time.as_secs_f64().max(0.001);

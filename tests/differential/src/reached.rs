@@ -9,6 +9,7 @@ use crate::cards::counts::CardCounts;
 use crate::form::Form;
 use crate::founded::Founded;
 use crate::inspected::Inspected;
+use crate::routes::counts::RouteCounts;
 use crate::sheets::counts::Sheets;
 
 /// Refusal numbers of the ring's C calls: 1 to 15, 17 and 18. 16 is the roll call's, which C has
@@ -33,6 +34,8 @@ pub struct Reached {
     pub inspected: Inspected,
     /// What the calls with cards were about. They are counted there alone.
     pub cards: CardCounts,
+    /// What the routes were about. They are counted there alone.
+    pub routes: RouteCounts,
     /// What the sheets were about. Their calls are counted there alone.
     pub sheets: Sheets,
     /// The most nodes that were in the ledger at once.
@@ -112,6 +115,7 @@ impl Reached {
         self.founded.add(&other.founded);
         self.inspected.add(&other.inspected);
         self.cards.add(&other.cards);
+        self.routes.add(&other.routes);
         self.sheets.add(&other.sheets);
         self.most_members = self.most_members.max(other.most_members);
         add_all(&mut self.refusals, &other.refusals);
@@ -149,8 +153,13 @@ impl Reached {
             ("LOOKUPs delivered with hops at 65535", one(self.hops_stay)),
             ("LOOKUPs delivered to their own sender", one(self.to_itself)),
         ];
-        let others =
-            [self.founded.rows(), self.inspected.rows(), self.cards.rows(), self.sheets.rows()];
+        let others = [
+            self.founded.rows(),
+            self.inspected.rows(),
+            self.cards.rows(),
+            self.routes.rows(),
+            self.sheets.rows(),
+        ];
         calls.into_iter().chain(others.into_iter().flatten()).collect()
     }
 

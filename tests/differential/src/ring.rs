@@ -13,7 +13,9 @@ use crate::calls::{answer_of, put_words, Calls, RECORD_BYTES};
 use crate::form::Form;
 use crate::lent::Lent;
 use crate::reached::Reached;
-use crate::states::founded;
+use crate::routes::counts::{RouteCounts, Source};
+use crate::routes::route::Route;
+use crate::states::{founded, state_of};
 
 /// The engine's record in lent bytes, and the state that it should stand for.
 pub struct Ring {
@@ -93,6 +95,25 @@ impl Ring {
         let answer = answer_of(self.out.engine());
         reached.answer(&answer);
         Ok(Ok(answer))
+    }
+
+    /// One route of both, compared, and asked one by one on a copy. The number returned.
+    pub fn route(
+        &mut self,
+        route: &mut Route,
+        source: Source,
+        counts: &mut RouteCounts,
+    ) -> Result<u32, String> {
+        let before = self.record.look()[..RECORD_BYTES].to_vec();
+        let code = route.call(self.calls, &mut self.record)?;
+        counts.called(source, code, route, self.record.look());
+        if code == NO_REFUSAL {
+            let after = &self.record.look()[..RECORD_BYTES];
+            counts.asked += route.one_by_one(self.calls, &before, after)?;
+            self.state = state_of(after)?;
+            self.write_expected();
+        }
+        Ok(code)
     }
 
     /// One owner query of both, compared.

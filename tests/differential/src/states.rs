@@ -4,6 +4,7 @@
 use ring_model::generator::Generator;
 use ring_model::record::{State, INSIDE, MAX_NODES, RECORD_WORDS};
 
+use crate::calls::words_of;
 use crate::form::Form;
 use crate::identifiers::{identifiers, ring_size};
 
@@ -12,6 +13,12 @@ pub fn founded(names: &[u32], form: Form) -> State {
     let mut words = vec![0; RECORD_WORDS];
     let state = form.on_words(&mut words, names).and_then(|()| State::read(&words));
     state.expect("different identifiers found a ring")
+}
+
+/// The state that a record stands for, which a call of the model has left.
+pub fn state_of(record: &[u8]) -> Result<State, String> {
+    let state = State::read(&words_of(record));
+    state.map_err(|number| format!("the record that is left is refused by {number}"))
 }
 
 /// A ring at rest with all of its nodes inside, of any size, often the largest.

@@ -5,10 +5,18 @@ use ring_model::Command;
 /// So many of the latest calls are told; all of them, if there are no more.
 const TOLD: usize = 40;
 
-/// How a batch began, and its calls: the name of each and its three numbers.
+/// How a batch began, and its calls.
 pub struct Trail {
     start: String,
-    calls: Vec<(&'static str, [u32; 3])>,
+    calls: Vec<Call>,
+}
+
+/// A call that was made.
+enum Call {
+    /// Its name and its three numbers.
+    Three(&'static str, [u32; 3]),
+    /// A route: its hub, the numbers, and the bytes that were lent for outcomes.
+    Route(u32, Vec<u32>, usize),
 }
 
 impl Trail {
@@ -19,12 +27,17 @@ impl Trail {
 
     /// Notes a step that is about to be made.
     pub fn push(&mut self, Command { operation, x, y }: Command) {
-        self.calls.push(("step", [operation, x, y]));
+        self.calls.push(Call::Three("step", [operation, x, y]));
     }
 
     /// Notes an offer that is about to be made.
     pub fn push_offer(&mut self, offered: [u32; 3]) {
-        self.calls.push(("offer", offered));
+        self.calls.push(Call::Three("offer", offered));
+    }
+
+    /// Notes a route that is about to be made.
+    pub fn push_route(&mut self, hub: u32, numbers: Vec<u32>, room: usize) {
+        self.calls.push(Call::Route(hub, numbers, room));
     }
 
     /// The report of a difference at the latest call.
@@ -35,8 +48,14 @@ impl Trail {
         if first > 0 {
             text.push_str(&format!("\n  {first} calls, then"));
         }
-        for (name, [a, b, c]) in &self.calls[first..] {
-            text.push_str(&format!("\n  {name} {a} {b} {c}"));
+        for call in &self.calls[first..] {
+            let line = match call {
+                Call::Three(name, [a, b, c]) => format!("{name} {a} {b} {c}"),
+                Call::Route(hub, numbers, room) => {
+                    format!("route at {hub}, {room} bytes for outcomes: {numbers:?}")
+                }
+            };
+            text.push_str(&format!("\n  {line}"));
         }
         text
     }

@@ -22,6 +22,7 @@ pub fn cases() -> Vec<(&'static str, bool)> {
     let mut cases = holders();
     cases.extend(questions());
     cases.extend(wrong_answers());
+    cases.extend(routes());
     cases.extend(founders());
     let seen = |verdict: Verdict, words: &str| verdict.is_err_and(|what| what.contains(words));
     let broken = cases.into_iter().map(|(name, verdict, words)| (name, seen(verdict, words)));
@@ -60,6 +61,24 @@ fn wrong_answers() -> Vec<Case> {
     let verdict = |&(node, key)| ask(&mut both(), Answer::found(node, key, 0, 0));
     let case = |wrong| ("a found answer of another node", verdict(wrong), "found names another");
     wrong.iter().map(case).collect()
+}
+
+/// Routes of a question that is found and one that is sent on: it is lost, or the found one is
+/// another node's, or has the ticket of one before.
+fn routes() -> Vec<Case> {
+    let two =
+        |node, ticket| [(7, Ok(Answer::found(node, 7, ticket, 0))), (150, Ok(Answer::quiet()))];
+    let taken = |node| both().take_in_route(0, &two(node, 0));
+    let mut claims = both();
+    let lost = claims.take_in_route(0, &two(0, 0)).and_then(|()| claims.judge(&state([1, 0], &[])));
+    let mut claims = both();
+    let twice =
+        claims.take_in_route(0, &two(0, 3)).and_then(|()| claims.take_in_route(0, &two(0, 3)));
+    vec![
+        ("a question of a route lost", lost, "2 questions accepted, 1 answered, 0 waiting"),
+        ("a found question of a route, of another node", taken(1), "found names another"),
+        ("a ticket found in two routes", twice, "found twice"),
+    ]
 }
 
 /// Ledgers that start with another node than the founder: seen before any call, and in the first
@@ -133,7 +152,10 @@ fn sound() -> Verdict {
     let mut claims = both();
     ask(&mut claims, Answer::found(1, 150, 0, 0))?;
     ask(&mut claims, Answer::quiet())?;
-    claims.judge(&state([1, 0], &[LOOKED_UP]))
+    claims.judge(&state([1, 0], &[LOOKED_UP]))?;
+    let found = Ok(Answer::found(0, 7, 2, 0));
+    claims.take_in_route(0, &[(7, found), (7, Err(11)), (150, Ok(Answer::quiet()))])?;
+    claims.judge(&state([1, 0], &[LOOKED_UP, LOOKED_UP]))
 }
 
 fn gone_still_holds() -> Verdict {

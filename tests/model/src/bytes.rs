@@ -1,6 +1,6 @@
 //! The calls on bytes, as the C boundary has them (document 01, 'Reading the
-//! ring'): four bytes a word, lowest first. The office sheet's and those with
-//! cards are in files of their own.
+//! ring'): four bytes a word, lowest first. The office sheet's, those with
+//! cards and the route's are in files of their own.
 
 use crate::queries::owner;
 use crate::record::RECORD_WORDS;
@@ -8,9 +8,11 @@ use crate::refusal;
 use crate::step::{fresh, fresh_by, step};
 
 mod cards;
+mod routes;
 mod sheet;
 
 pub use cards::{ring_fresh_by_cards, ring_fresh_cards, ring_offer, ring_step_cards};
+pub use routes::{ring_route, OUTCOME_BYTES};
 pub use sheet::{give_hubs, give_text, ring_sheet_read, ring_sheet_write, COUNTS_BYTES};
 
 /// Nothing was refused.

@@ -50,3 +50,7 @@ pub const REVISION_LOWER: u32 = 22;
 pub const PRICE_DIFFERS: u32 = 23;
 /// Are fewer than 512 cards kept, for a new machine?
 pub const CARDS_FULL: u32 = 24;
+/// Are there at most 64 numbers?
+pub const ROUTE_LONG: u32 = 25;
+/// Are there as many places for outcomes as numbers?
+pub const PLACES_SHORT: u32 = 26;

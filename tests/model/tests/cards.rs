@@ -1,5 +1,6 @@
 //! Price cards (document 02, 2026-04): which slices are well formed, the order
-//! of the refusals, offers, and how cards change hub.
+//! of the refusals, offers, how cards change hub, and that a route (2026-06)
+//! leaves them right.
 
 mod common;
 
@@ -15,6 +16,8 @@ mod moves;
 mod offers;
 #[path = "cards/order.rs"]
 mod order;
+#[path = "cards/routes.rs"]
+mod routes;
 #[path = "cards/runs.rs"]
 mod runs;
 #[path = "cards/watched.rs"]

@@ -1,6 +1,6 @@
 //! Document 01 read aloud: its listing, its probes, the field engineer's
 //! checks, every refusal number, and the faults a good engineer makes; and, by
-//! document 02, who founds and how planners read a range.
+//! document 02, who founds, how planners read a range, and a route's questions.
 
 mod common;
 
@@ -20,5 +20,7 @@ mod probes;
 mod ranges;
 #[path = "document/refusals.rs"]
 mod refusals;
+#[path = "document/routes.rs"]
+mod routes;
 #[path = "document/well_formed.rs"]
 mod well_formed;

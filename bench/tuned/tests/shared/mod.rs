@@ -1,5 +1,7 @@
-//! Words and bytes, for the tests that compare both models.
+//! Words and bytes, and records, for the tests that compare both models.
 #![allow(dead_code)]
+
+pub mod records;
 
 /// Output longer than any answer, and what it holds before a call.
 pub const BEFORE: [u8; 23] = [0xBB; 23];

@@ -12,7 +12,9 @@ use super::counts::CardCounts;
 use crate::calls::{answer_of, put_words, words_of, Calls, RECORD_BYTES};
 use crate::form::Form;
 use crate::lent::{compare, Lent};
-use crate::states::founded;
+use crate::routes::counts::{RouteCounts, Source};
+use crate::routes::route::Route;
+use crate::states::{founded, state_of};
 
 /// The engine's record and cards in lent bytes, and what they should stand for.
 pub struct CardRing {
@@ -109,6 +111,21 @@ impl CardRing {
         self.compare(code, expected.err().unwrap_or(NO_REFUSAL))?;
         counts.offered(code, offered, &before);
         Ok(expected)
+    }
+
+    /// One route of both, compared, and asked one by one on a copy. The cards are not lent to it.
+    /// The number returned.
+    pub fn route(&mut self, route: &mut Route, counts: &mut RouteCounts) -> Result<u32, String> {
+        let before = self.record.look()[..RECORD_BYTES].to_vec();
+        let code = route.call(self.calls, &mut self.record)?;
+        counts.called(Source::Cards, code, route, self.record.look());
+        self.cards.difference("cards").map_or(Ok(()), Err)?;
+        if code == NO_REFUSAL {
+            let after = &self.record.look()[..RECORD_BYTES];
+            counts.asked += route.one_by_one(self.calls, &before, after)?;
+            self.state = state_of(after)?;
+        }
+        Ok(code)
     }
 
     fn write_expected(&mut self) {

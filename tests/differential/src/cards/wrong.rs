@@ -86,7 +86,7 @@ fn identifiers(words: &[u8]) -> Vec<u32> {
 }
 
 /// A refused call that leaves a mark in the first byte of what it was lent.
-fn mark_if_refused(code: u32, lent: &mut [u8]) -> u32 {
+pub fn mark_if_refused(code: u32, lent: &mut [u8]) -> u32 {
     if let (true, Some(byte)) = (code != NO_REFUSAL, lent.first_mut()) {
         *byte ^= 1;
     }

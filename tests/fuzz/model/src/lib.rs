@@ -63,6 +63,28 @@ pub unsafe extern "C" fn model_step(
     )
 }
 
+/// `ring_route` as the model has it.
+///
+/// # Safety
+/// As for `model_fresh`.
+#[no_mangle]
+pub unsafe extern "C" fn model_route(
+    words: *mut u8,
+    words_len: usize,
+    hub: u32,
+    numbers: *const u8,
+    numbers_len: usize,
+    outcomes: *mut u8,
+    outcomes_len: usize,
+) -> u32 {
+    bytes::ring_route(
+        from_raw_parts_mut(words, words_len),
+        hub,
+        from_raw_parts(numbers, numbers_len),
+        from_raw_parts_mut(outcomes, outcomes_len),
+    )
+}
+
 /// `ring_owner` as the model has it.
 ///
 /// # Safety

@@ -178,8 +178,8 @@ fn kind_name(kind: u32) -> &'static str {
 }
 
 /// The name of a refusal number. No line is refused by 18, since a founding
-/// frame names hub 0, nor by the sheet's 19 to 21 or an offer's 22 to 24; but
-/// each number has its name.
+/// frame names hub 0, nor by the sheet's 19 to 21, an offer's 22 to 24 or a
+/// route's 25 and 26; but each number has its name.
 pub fn refusal_name(number: u32) -> &'static str {
     match number {
         refusal::RECORD_SHORT => "record short",
@@ -206,6 +206,8 @@ pub fn refusal_name(number: u32) -> &'static str {
         refusal::REVISION_LOWER => "revision lower",
         refusal::PRICE_DIFFERS => "price differs",
         refusal::CARDS_FULL => "cards full",
+        refusal::ROUTE_LONG => "route long",
+        refusal::PLACES_SHORT => "places short",
         _ => unreachable!("the documents have no such refusal"),
     }
 }

@@ -4,7 +4,7 @@
 use ring_model::answer::{ENTERED, GONE};
 use ring_model::cards::{fresh_by_cards, fresh_cards};
 use ring_model::step::smallest;
-use ring_model::{step, Answer, Command, Witness, RECORD_WORDS};
+use ring_model::{route, step, Answer, Command, Witness, RECORD_WORDS};
 
 use crate::{cards, members, owner, Both, MOST, SLICE};
 
@@ -57,6 +57,27 @@ impl Watched {
         assert_eq!(seen, Ok(()), "{command:?}");
         self.judge();
         outcome
+    }
+
+    /// A route, to which the cards are not lent. The same asks with cards lent
+    /// leave the same record on a copy, and the same cards. How many of its
+    /// questions were refused.
+    pub fn route(&mut self, hub: u32, numbers: &[u32]) -> usize {
+        let mut lent = self.both.clone();
+        let asks = numbers.iter().map(|&number| Command::new(0, hub, number));
+        let asked: Vec<_> = asks
+            .map(|ask| (ask, lent.step(ask.operation, ask.x, ask.y)))
+            .collect();
+        let mut places = vec![0; 6 * numbers.len()];
+        let called = route(&mut self.both.words, hub, numbers, &mut places);
+        assert_eq!((called, &self.both), (Ok(()), &lent));
+        for (ask, outcome) in &asked {
+            let seen = self.witness.take_in(*ask, outcome);
+            assert_eq!(seen, Ok(()), "{ask:?}");
+        }
+        assert_eq!(self.witness.judge(&self.both.words), Ok(()));
+        self.judge();
+        asked.iter().filter(|(_, outcome)| outcome.is_err()).count()
     }
 
     /// An offer, judged by the plain list alone.

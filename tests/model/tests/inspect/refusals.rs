@@ -9,7 +9,7 @@ use super::{ask, holding, last};
 use crate::common::{inside, message, outside, record, Run};
 
 /// The names, in the order of their numbers.
-pub const NAMES: [&str; 24] = [
+pub const NAMES: [&str; 26] = [
     "record short",
     "not well formed",
     "no operation",
@@ -34,6 +34,8 @@ pub const NAMES: [&str; 24] = [
     "revision lower",
     "price differs",
     "cards full",
+    "route long",
+    "places short",
 ];
 
 fn refused(number: usize) -> String {

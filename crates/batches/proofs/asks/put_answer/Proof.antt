@@ -40,7 +40,7 @@ shared-slice-read-place-5 : tie.Need-shared-slice-read-place-5
 shared-slice-read-place-5 c = search needs
 
 slice-write-place-6 : tie.Need-slice-write-place-6
-slice-write-place-6 c = search needs
+slice-write-place-6 c = simp length-set (omega arith)
 
 same-length : tie.Need-same-length
 same-length c = search needs

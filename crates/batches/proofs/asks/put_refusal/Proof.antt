@@ -22,7 +22,7 @@ slice-write-place-5 : tie.Need-slice-write-place-5
 slice-write-place-5 c = simp length-set (omega arith)
 
 slice-write-place-6 : tie.Need-slice-write-place-6
-slice-write-place-6 c = search needs
+slice-write-place-6 c = simp length-set (omega arith)
 
 same-length : tie.Need-same-length
 same-length c = search needs
