@@ -1,38 +1,17 @@
 // The ring for programs in C (document 01, 'Reading the ring'): the words travel as bytes, four a word, lowest first. Every length of
 // every lent slice is taken, and whatever is wrong is refused by its number. include/ring.h says the same to a C compiler.
-mod foundings;
-mod results;
-
-use crate::foundings::found;
-use crate::results::finish;
-use crate::results::finish_owner;
-use crate::results::finish_sheet;
-use protocol::Founder;
-use protocol::form::RECORD_BYTES;
-use protocol::refusals;
-use sheet_reading::read_sheet_bytes;
-use sheet_writing::write_sheet_bytes;
-use word_bytes::loaded;
 ghost use mathlib.Core.Path.{_≡_};
 ghost use Rattle.protocol.specs.Bytes.{stepBytes, ownerBytes, freshBytes, freshByBytes};
 ghost use Rattle.protocol.specs.CardBytes.{stepCardsBytes, offerBytes, freshCardsBytes, freshByCardsBytes};
 ghost use Rattle.protocol.specs.Batch.{batchBytes};
-ghost use Rattle.ring_c.specs.Told.{sheetRead, sheetWrite};
+ghost use Rattle.sheet_bytes.specs.Told.{sheetRead, sheetWrite};
 
-// One command on the record in the lent bytes. Only the record is loaded, since a step looks at nothing behind it.
+// One command on the record in the lent bytes.
 #[no_mangle]
 pub extern "C" fn ring_step(words: &mut [u8], operation: u32, x: u32, y: u32, out: &mut [u8]) -> u32
     ensures { λ r. ⌜ stepBytes (now (words .entry)) operation x y (now (out .entry)) ≡ record { code = r; bytes = now (words .exit); output = now (out .exit) } ⌝ }
 {
-    if out.len() < 20 {
-        return refusals::OUTPUT_SHORT;
-    }
-    if words.len() < RECORD_BYTES {
-        return 1;
-    }
-    let mut w = loaded(&words[..]);
-    let r = steps::step(&mut w, operation, x, y);
-    finish(words, out, &w, r)
+    record_bytes::step(words, operation, x, y, out)
 }
 
 // The node that holds a number, by the record in the lent bytes, which are only read.
@@ -40,15 +19,7 @@ pub extern "C" fn ring_step(words: &mut [u8], operation: u32, x: u32, y: u32, ou
 pub extern "C" fn ring_owner(words: &[u8], number: u32, out: &mut [u8]) -> u32
     ensures { λ r. ⌜ ownerBytes (now (words .entry)) number (now (out .entry)) ≡ record { code = r; output = now (out .exit) } ⌝ }
 {
-    if out.len() < 4 {
-        return refusals::OUTPUT_SHORT;
-    }
-    if words.len() < RECORD_BYTES {
-        return 1;
-    }
-    let w = loaded(words);
-    let r = queries::owner(&w, number);
-    finish_owner(out, r)
+    record_bytes::owner(words, number, out)
 }
 
 // A ring founded in the lent bytes by the node with the smallest identifier.
@@ -56,7 +27,7 @@ pub extern "C" fn ring_owner(words: &[u8], number: u32, out: &mut [u8]) -> u32
 pub extern "C" fn ring_fresh(words: &mut [u8], identifiers: &[u8]) -> u32
     ensures { λ r. ⌜ freshBytes (now (words .entry)) (now (identifiers .entry)) ≡ record { code = r; bytes = now (words .exit) } ⌝ }
 {
-    found(words, identifiers, Founder::Smallest)
+    record_bytes::fresh(words, identifiers)
 }
 
 // A ring founded there by the node that the caller names.
@@ -64,7 +35,7 @@ pub extern "C" fn ring_fresh(words: &mut [u8], identifiers: &[u8]) -> u32
 pub extern "C" fn ring_fresh_by(words: &mut [u8], identifiers: &[u8], founder: u32) -> u32
     ensures { λ r. ⌜ freshByBytes (now (words .entry)) (now (identifiers .entry)) founder ≡ record { code = r; bytes = now (words .exit) } ⌝ }
 {
-    found(words, identifiers, Founder::Named(founder))
+    record_bytes::fresh_by(words, identifiers, founder)
 }
 
 // One command on the record in the lent bytes, with its cards in others.
@@ -130,9 +101,6 @@ pub extern "C" fn ring_route(
     batch_bytes::ask(words, node, numbers, outcomes)
 }
 
-// Two counts of eight bytes.
-const COUNTS_BYTES: usize = 16;
-
 // The hubs of an office sheet, into the lent identifiers and names.
 #[no_mangle]
 pub extern "C" fn ring_sheet_read(
@@ -143,11 +111,7 @@ pub extern "C" fn ring_sheet_read(
 ) -> u32
     ensures { λ r. ⌜ sheetRead (now (text .entry)) (now (identifiers .entry)) (now (names .entry)) (now (counts .entry)) ≡ record { code = r; identifiers = now (identifiers .exit); names = now (names .exit); counts = now (counts .exit) } ⌝ }
 {
-    if counts.len() < COUNTS_BYTES {
-        return refusals::OUTPUT_SHORT;
-    }
-    let r = read_sheet_bytes(text, identifiers, names);
-    finish_sheet(counts, r)
+    sheet_bytes::read(text, identifiers, names, counts)
 }
 
 // The office sheet of names and identifiers, into the lent text.
@@ -160,9 +124,5 @@ pub extern "C" fn ring_sheet_write(
 ) -> u32
     ensures { λ r. ⌜ sheetWrite (now (names .entry)) (now (identifiers .entry)) (now (text .entry)) (now (counts .entry)) ≡ record { code = r; text = now (text .exit); counts = now (counts .exit) } ⌝ }
 {
-    if counts.len() < COUNTS_BYTES {
-        return refusals::OUTPUT_SHORT;
-    }
-    let r = write_sheet_bytes(names, identifiers, text);
-    finish_sheet(counts, r)
+    sheet_bytes::write(names, identifiers, text, counts)
 }

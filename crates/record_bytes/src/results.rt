@@ -7,7 +7,6 @@ ghost use mathlib.Core.Path.{_≡_};
 ghost use Prim.Native.Nat.{_*_, _≤_};
 ghost use lib.ListN.{length};
 ghost use Rattle.protocol.specs.Bytes.{carried, told, freshCarried};
-ghost use Rattle.ring_c.specs.Told.{codeOf, countsAfter};
 
 // A step that leaves the words w.
 pub(crate) fn finish(words: &mut [u8], out: &mut [u8], w: &[u32], r: Outcome) -> u32
@@ -49,26 +48,6 @@ pub(crate) fn finish_fresh(words: &mut [u8], w: &[u32], r: Outcome) -> u32
         Outcome::Refused(k) => k,
         Outcome::Answered(_) => {
             save(words, w);
-            0
-        }
-    }
-}
-
-// A sheet that was read or written: rows, then bytes.
-pub(crate) fn finish_sheet(counts: &mut [u8], r: sheets::Outcome) -> u32
-    requires { ⌜ 16 ≤ length (now counts) ⌝ }
-    ensures { λ k. ⌜ (k ≡ codeOf r) × (now (counts .exit) ≡ countsAfter (now (counts .entry)) r) ⌝ }
-{
-    match r {
-        sheets::Outcome::Refused(k) => k,
-        sheets::Outcome::Done { rows, bytes } => {
-            let words = [
-                (rows % 4294967296) as u32,
-                (rows / 4294967296) as u32,
-                (bytes % 4294967296) as u32,
-                (bytes / 4294967296) as u32,
-            ];
-            save(counts, &words);
             0
         }
     }

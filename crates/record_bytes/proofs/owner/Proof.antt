@@ -1,11 +1,11 @@
--- `ring_owner` meets its contract: the query on the record is the query on all words. Assumes nothing.
+-- `owner` meets its contract: the query on the record is the query on all words. Assumes nothing.
 use mathlib.Core.Path.{_∙_}
 use native.Mathlib.Omega.{arith}
-use Rattle.ring_c.specs.Results.{owner-17, owner-1, owner-rest}
+use Rattle.record_bytes.specs.Results.{owner-17, owner-1, owner-rest}
 use borrow.Author.Needs.{needs}
-use Rattle.ring_c.proofs.ring_owner.Statement.{statement}
-use Rattle.ring_c.proofs.ring_owner.Tie as tie
-use Rattle.ring_c.proofs.ring_owner.Lts as lts
+use Rattle.record_bytes.proofs.owner.Statement.{statement}
+use Rattle.record_bytes.proofs.owner.Tie as tie
+use Rattle.record_bytes.proofs.owner.Lts as lts
 
 returns : tie.Need-returns
 returns c = owner-17 (c .before .before .before .args .words .now) (c .before .before .before .args .out .now) (c .before .before .before .args .number) (omega arith)
@@ -34,8 +34,8 @@ returns-3 c =
     owner-rest (a .words .now) (a .out .now) (a .number) (omega arith) (omega arith)
     ∙ rw (← c .before .before .before .before .before .before .loaded .ensures, ← c .before .before .before .before .owner .ensures) (c .before .before .finish-owner .ensures)
 
-pub ring-owner-spec : {M : Type 1} → statement M
-ring-owner-spec =
+pub owner-spec : {M : Type 1} → statement M
+owner-spec =
     tie.close
     (tie.spec
     returns

@@ -8,12 +8,12 @@ use Rattle.lists.specs.Basics.{All}
 use Rattle.lists.specs.Members.{all-at}
 use Rattle.word_bytes.specs.Carry.{wordAt, words-all}
 use Rattle.protocol.specs.Fresh.{founderOf}
-use Rattle.ring_c.specs.Results.{fresh-1, fresh-13, fresh-rest}
+use Rattle.record_bytes.specs.Results.{fresh-1, fresh-13, fresh-rest}
 use borrow.Author.Needs.{needs}
-use Rattle.ring_c.proofs.foundings.found.Statement.{statement}
+use Rattle.record_bytes.proofs.foundings.found.Statement.{statement}
 use Rattle.protocol.specs.Bytes.{Byte, wordsOf}
-use Rattle.ring_c.proofs.foundings.found.Tie as tie
-use Rattle.ring_c.proofs.foundings.found.Lts as lts
+use Rattle.record_bytes.proofs.foundings.found.Tie as tie
+use Rattle.record_bytes.proofs.foundings.found.Lts as lts
 
 returns : tie.Need-returns
 returns c =

@@ -1,9 +1,9 @@
--- `ring_sheet_write`: 17, or what the call tells. Assumes nothing.
+-- `write`: 17, or what the call tells. Assumes nothing.
 use native.Mathlib.Omega.{arith}
-use Rattle.ring_c.specs.Told.{toldWrite, write-17, write-told}
+use Rattle.sheet_bytes.specs.Told.{toldWrite, write-17, write-told}
 use borrow.Author.Needs.{needs}
-use Rattle.ring_c.proofs.ring_sheet_write.Statement.{statement}
-use Rattle.ring_c.proofs.ring_sheet_write.Tie as tie
+use Rattle.sheet_bytes.proofs.write.Statement.{statement}
+use Rattle.sheet_bytes.proofs.write.Tie as tie
 
 returns : tie.Need-returns
 returns c = write-17 (c .before .before .before .before .before .args .text .now) (c .before .before .before .before .before .args .identifiers .now) (c .before .before .before .before .before .args .names .now) (c .before .before .before .before .before .args .counts .now) (c .if1 .taken)
@@ -24,8 +24,8 @@ returns-2 : tie.Need-returns-2
 unfolding toldWrite
 returns-2 c = rw (c .before .before .finish-sheet .ensures .0, c .before .before .finish-sheet .ensures .1) (write-told (c .before .before .before .before .before .before .before .before .before .before .before .before .before .args .text .now) (c .before .before .before .before .before .before .before .before .before .before .before .before .before .args .identifiers .now) (c .before .before .before .before .before .before .before .before .before .before .before .before .before .args .names .now) (c .before .before .before .before .before .before .before .before .before .before .before .before .before .args .counts .now) _ (omega arith) (c .before .before .before .before .before .before .write-sheet-bytes .ensures))
 
-pub ring-sheet-write-spec : {M : Type 1} → statement M
-ring-sheet-write-spec =
+pub write-spec : {M : Type 1} → statement M
+write-spec =
     tie.close
     (tie.spec
     returns

@@ -2,9 +2,9 @@
 use Rattle.protocol.specs.Answers.{ownerRefusal, ownerWords}
 use Rattle.protocol.specs.Bytes.{over, told}
 use borrow.Author.Needs.{needs}
-use Rattle.ring_c.proofs.results.finish_owner.Statement.{statement}
-use Rattle.ring_c.proofs.results.finish_owner.Tie as tie
-use Rattle.ring_c.proofs.results.finish_owner.Lts as lts
+use Rattle.record_bytes.proofs.results.finish_owner.Statement.{statement}
+use Rattle.record_bytes.proofs.results.finish_owner.Tie as tie
+use Rattle.record_bytes.proofs.results.finish_owner.Lts as lts
 
 enum-known-r : tie.Need-enum-known-r
 enum-known-r c = search needs

@@ -2,9 +2,9 @@
 use Rattle.protocol.specs.Answers.{refusal, outcomeWords}
 use Rattle.protocol.specs.Bytes.{over, bytesAfter, carried}
 use borrow.Author.Needs.{needs}
-use Rattle.ring_c.proofs.results.finish.Statement.{statement}
-use Rattle.ring_c.proofs.results.finish.Tie as tie
-use Rattle.ring_c.proofs.results.finish.Lts as lts
+use Rattle.record_bytes.proofs.results.finish.Statement.{statement}
+use Rattle.record_bytes.proofs.results.finish.Tie as tie
+use Rattle.record_bytes.proofs.results.finish.Lts as lts
 
 enum-known-r : tie.Need-enum-known-r
 enum-known-r c = search needs

@@ -2,9 +2,9 @@
 use Rattle.protocol.specs.Answers.{refusal}
 use Rattle.protocol.specs.Bytes.{bytesAfter, freshCarried}
 use borrow.Author.Needs.{needs}
-use Rattle.ring_c.proofs.results.finish_fresh.Statement.{statement}
-use Rattle.ring_c.proofs.results.finish_fresh.Tie as tie
-use Rattle.ring_c.proofs.results.finish_fresh.Lts as lts
+use Rattle.record_bytes.proofs.results.finish_fresh.Statement.{statement}
+use Rattle.record_bytes.proofs.results.finish_fresh.Tie as tie
+use Rattle.record_bytes.proofs.results.finish_fresh.Lts as lts
 
 enum-known-r : tie.Need-enum-known-r
 enum-known-r c = search needs

@@ -1,9 +1,9 @@
 -- `finish_sheet` hands back the number, and the counts of a sheet. Assumes nothing.
 use mathlib.Core.Path.{sym, ap, _∙_}
-use Rattle.ring_c.specs.Told.{codeOf, countWords, countsAfter}
+use Rattle.sheet_bytes.specs.Told.{codeOf, countWords, countsAfter}
 use borrow.Author.Needs.{needs}
-use Rattle.ring_c.proofs.results.finish_sheet.Statement.{statement}
-use Rattle.ring_c.proofs.results.finish_sheet.Tie as tie
+use Rattle.sheet_bytes.proofs.results.finish_sheet.Statement.{statement}
+use Rattle.sheet_bytes.proofs.results.finish_sheet.Tie as tie
 
 enum-known-r : tie.Need-enum-known-r
 enum-known-r c = search needs

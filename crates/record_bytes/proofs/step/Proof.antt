@@ -1,14 +1,14 @@
--- `ring_step` meets its contract: the bytes' words are the record and what is behind it, the step on the record is the step on all, and writing the record back is writing all back. Assumes nothing.
+-- `step` meets its contract: the bytes' words are the record and what is behind it, the step on the record is the step on all, and writing the record back is writing all back. Assumes nothing.
 use mathlib.Core.Path.{_∙_}
 use native.Mathlib.Omega.{arith}
 use Rattle.lists.specs.Basics.{All}
 use Rattle.lists.specs.Members.{all-at}
 use Rattle.protocol.specs.Bytes.{Byte}
-use Rattle.ring_c.specs.Results.{step-17, step-1, step-rest}
+use Rattle.record_bytes.specs.Results.{step-17, step-1, step-rest}
 use borrow.Author.Needs.{needs}
-use Rattle.ring_c.proofs.ring_step.Statement.{statement}
-use Rattle.ring_c.proofs.ring_step.Tie as tie
-use Rattle.ring_c.proofs.ring_step.Lts as lts
+use Rattle.record_bytes.proofs.step.Statement.{statement}
+use Rattle.record_bytes.proofs.step.Tie as tie
+use Rattle.record_bytes.proofs.step.Lts as lts
 
 returns : tie.Need-returns
 returns c = let a = c .before .before .before .args in step-17 (a .words .now) (a .out .now) (a .operation) (a .x) (a .y) (omega arith)
@@ -46,8 +46,8 @@ returns-3 c =
     (rw (c .before .before .before .before .before .before .before .before .before .before .before .loaded .ensures) at (c .before .before .before .before .before .before .before .before .before .step .ensures))
     ∙ c .before .before .before .before .finish .ensures
 
-pub ring-step-spec : {M : Type 1} → statement M
-ring-step-spec =
+pub step-spec : {M : Type 1} → statement M
+step-spec =
     tie.close
     (tie.spec
     returns

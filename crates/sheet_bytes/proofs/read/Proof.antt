@@ -1,9 +1,9 @@
--- `ring_sheet_read`: 17, or what the call tells. Assumes nothing.
+-- `read`: 17, or what the call tells. Assumes nothing.
 use native.Mathlib.Omega.{arith}
-use Rattle.ring_c.specs.Told.{toldRead, read-17, read-told}
+use Rattle.sheet_bytes.specs.Told.{toldRead, read-17, read-told}
 use borrow.Author.Needs.{needs}
-use Rattle.ring_c.proofs.ring_sheet_read.Statement.{statement}
-use Rattle.ring_c.proofs.ring_sheet_read.Tie as tie
+use Rattle.sheet_bytes.proofs.read.Statement.{statement}
+use Rattle.sheet_bytes.proofs.read.Tie as tie
 
 returns : tie.Need-returns
 returns c = read-17 (c .before .before .before .before .before .args .text .now) (c .before .before .before .before .before .args .identifiers .now) (c .before .before .before .before .before .args .names .now) (c .before .before .before .before .before .args .counts .now) (c .if1 .taken)
@@ -27,8 +27,8 @@ returns-2 : tie.Need-returns-2
 unfolding toldRead
 returns-2 c = rw (c .before .before .finish-sheet .ensures .0, c .before .before .finish-sheet .ensures .1) (read-told (c .before .before .before .before .before .before .before .before .before .before .before .before .before .before .before .before .args .text .now) (c .before .before .before .before .before .before .before .before .before .before .before .before .before .before .before .before .args .identifiers .now) (c .before .before .before .before .before .before .before .before .before .before .before .before .before .before .before .before .args .names .now) (c .before .before .before .before .before .before .before .before .before .before .before .before .before .before .before .before .args .counts .now) _ (omega arith) (c .before .before .before .before .before .before .before .before .read-sheet-bytes .ensures))
 
-pub ring-sheet-read-spec : {M : Type 1} → statement M
-ring-sheet-read-spec =
+pub read-spec : {M : Type 1} → statement M
+read-spec =
     tie.close
     (tie.spec
     returns
