@@ -12,8 +12,8 @@
  * not be NULL, even where its length is 0: give any valid address. No pointer is kept after the call. The calls allocate nothing, hold no
  * state of their own, and may run on many threads at once, each on its own buffers.
  *
- * A call needs less than 10 KiB of stack, one with cards less than 40 KiB. Link with libring_c.a (`rt staticlib ring_c`, x86-64), which needs
- * memcpy, memmove and memset and nothing else.
+ * A call needs less than 10 KiB of stack, ring_route less than 12 KiB, one with cards less than 40 KiB. Link with libring_c.a
+ * (`rt staticlib ring_c`, x86-64), which needs memcpy, memmove and memset and nothing else.
  */
 #ifndef RING_H
 #define RING_H
