@@ -1,12 +1,14 @@
 /*
  * A small modem server: frames come in, one a line, are carried out on a record that this program owns, and answers go out. Beside the record it
- * keeps the price cards, which change hub as hubs enter and go. It speaks the frames of `ringrun`, and adds three of its own:
+ * keeps the price cards, which change hub as hubs enter and go. It speaks the frames of `ringrun`, and adds four of its own:
  *
  *   'O' and 8 digits of a number           who holds it: prints the hub in 2 digits
  *   'C' and 8 digits each of machine,      a card is offered: prints quiet, 24 digits 0, or 'EE' and the number of the refusal
  *       revision and price
  *   'P' and 8 digits of a machine          its card: prints the hub that keeps it in 2 digits, revision and price in 8 each; a machine without
  *                                          a card is held by nobody: EE0F
+ *   'R' and 8 digits of a hub, then        a driver's route: the numbers are asked at the hub in one call. Prints a line for each, as if it were
+ *       8 of each of 1 to 64 numbers       asked alone
  *
  * A frame of `ringrun` may begin with C too, but has 18 digits: no frame is taken for another.
  */
@@ -15,7 +17,7 @@
 
 #include "ring.h"
 
-#define LONGEST_FRAME 514 /* F0 and 64 identifiers of 8 digits */
+#define LONGEST_FRAME 521 /* R, a hub and 64 numbers of 8 digits; F0 and 64 identifiers have 514 */
 #define OFFER_FRAME 25
 #define FIRST_CARD 65u /* the word of the cards where the first one begins; each has four: machine, revision, price, hub */
 
@@ -42,6 +44,17 @@ static int number(const char *text, size_t n, uint32_t *value)
     return 1;
 }
 
+/* Reads as many numbers of 8 digits as bytes, four a number. Answers whether they are digits. */
+static int numbers(const char *text, size_t count, uint8_t *bytes)
+{
+    for (size_t i = 0; i < count; i++) {
+        uint32_t v;
+        if (!number(text + 8 * i, 8, &v)) return 0;
+        for (size_t k = 0; k < 4; k++) bytes[4 * i + k] = (uint8_t)(v >> 8 * k);
+    }
+    return 1;
+}
+
 static void say_refused(uint32_t refusal)
 {
     printf("EE%02X\n", (unsigned)refusal);
@@ -61,12 +74,7 @@ static int found_ring(const char *line, size_t length)
 {
     uint8_t identifiers[4 * RING_MOST_HUBS];
     size_t count = (length - 2) / 8;
-    if ((length - 2) % 8 != 0) return 0;
-    for (size_t i = 0; i < count; i++) {
-        uint32_t v;
-        if (!number(line + 2 + 8 * i, 8, &v)) return 0;
-        for (size_t k = 0; k < 4; k++) identifiers[4 * i + k] = (uint8_t)(v >> 8 * k);
-    }
+    if ((length - 2) % 8 != 0 || count > RING_MOST_HUBS || !numbers(line + 2, count, identifiers)) return 0;
     uint32_t refusal = ring_fresh_by_cards(words, sizeof words, cards, sizeof cards, identifiers, 4 * count, 0);
     if (refusal != RING_OK) say_refused(refusal);
     else say_answer(quiet);
@@ -93,6 +101,27 @@ static int owner(const char *line, size_t length)
     uint32_t refusal = ring_owner(words, sizeof words, v, out, sizeof out);
     if (refusal != RING_OK) say_refused(refusal);
     else printf("%02X\n", (unsigned)ring_word(out, 0));
+    return 1;
+}
+
+/* A question moves no card, so the cards are not lent. A frame has at most as many numbers as a call takes, and there is a place for each. */
+static int route(const char *line, size_t length)
+{
+    uint8_t asked[4 * RING_MOST_QUESTIONS], outcomes[RING_PLACE_BYTES * RING_MOST_QUESTIONS];
+    uint32_t hub;
+    if (length < 17 || (length - 9) % 8 != 0 || !number(line + 1, 8, &hub)) return 0;
+    size_t count = (length - 9) / 8;
+    if (!numbers(line + 9, count, asked)) return 0;
+    uint32_t refusal = ring_route(words, sizeof words, hub, asked, 4 * count, outcomes, sizeof outcomes);
+    if (refusal != RING_OK) {
+        say_refused(refusal);
+        return 1;
+    }
+    for (size_t i = 0; i < count; i++) {
+        const uint8_t *place = outcomes + RING_PLACE_BYTES * i;
+        if (ring_word(place, 0) != RING_OK) say_refused(ring_word(place, 0));
+        else say_answer(place + 4);
+    }
     return 1;
 }
 
@@ -127,6 +156,7 @@ static void answer(const char *line, size_t length)
         if (length >= 2 && memcmp(line, "F0", 2) == 0) readable = found_ring(line, length);
         else if (length >= 1 && line[0] == 'O') readable = owner(line, length);
         else if (length >= 1 && line[0] == 'P') readable = price(line, length);
+        else if (length >= 1 && line[0] == 'R') readable = route(line, length);
         else if (length == OFFER_FRAME && line[0] == 'C') readable = offer(line);
         else readable = command(line, length);
     }
