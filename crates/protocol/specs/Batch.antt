@@ -27,7 +27,7 @@ unfoldable pub askEach : List ℕ → ℕ → List ℕ → Asked
 askEach w hub [] = record { outcomes = []; slice = w }
 askEach w hub (v ∷ numbers) = inFront (stepCall w 0 hub v .outcome) (askEach (stepCall w 0 hub v .slice) hub numbers)
 
--- A place of the output: the number of the refusal, 0 for none, and the answer's five fields, all 0 on a refusal.
+-- A place of the output: by which number the question was refused, 0 where it was not; then its answer's five words, zeros where it has none.
 abbrev pub placeSize : ℕ
 placeSize = 6
 

@@ -1,9 +1,9 @@
 //! A route's questions in one call (document 02, 2026-06): a list of numbers
 //! that is asked at one hub.
 //!
-//! 'Outcomes, record and tally equal those of asking one by one', so the call
-//! has no rule of its own but its questions, the order of its outcomes and
-//! their words. What becomes of one number at a hub is in `routing`.
+//! What it leaves is what its questions leave one after the other, so the call
+//! has no rule of its own but what it asks first, the order of its outcomes
+//! and their words. What becomes of one number at a hub is in `routing`.
 
 use crate::answer::Answer;
 use crate::command::ASK;
@@ -20,7 +20,7 @@ pub const OUTCOME_WORDS: usize = 6;
 /// What came of one question: 'an answer or a refusal number'.
 pub type Outcome = Result<Answer, u32>;
 
-/// Asks a list of numbers at one hub, and writes one outcome for each. Words
+/// Asks the numbers at the hub; each gets an outcome, in its place. Words
 /// behind the places written keep their content, and all of them do where the
 /// call is refused.
 pub fn route(
@@ -33,8 +33,7 @@ pub fn route(
 }
 
 /// The same with the tally lent to it. Each question counts there as it does
-/// alone, a refused one too; a refused call 'that is not a step adds nothing
-/// to it'.
+/// alone, a refused one too; a refused call has none, and counts nothing.
 pub fn route_tallied(
     words: &mut [u32],
     hub: u32,
@@ -72,8 +71,8 @@ fn asked(
 }
 
 /// The asks of a list in its order, on the typed form. A refused one leaves
-/// the state as it was, and the next is asked all the same: a hub that is none
-/// or outside is no refusal of the call, but of each question in it.
+/// the state as it was, and the next is asked all the same: where the hub is
+/// none, or outside, each question is refused, and the call is not.
 pub fn one_by_one(state: &mut State, hub: u32, numbers: &[u32]) -> Vec<Outcome> {
     numbers
         .iter()
@@ -81,8 +80,8 @@ pub fn one_by_one(state: &mut State, hub: u32, numbers: &[u32]) -> Vec<Outcome> 
         .collect()
 }
 
-/// 'The refusal number, 0 for none, then the answer's five fields, all 0 on a
-/// refusal.'
+/// Six words: the number by which it was refused, or 0; then what was
+/// answered, or zeros.
 pub fn outcome_words(outcome: &Outcome) -> [u32; OUTCOME_WORDS] {
     match *outcome {
         Err(number) => [number, 0, 0, 0, 0, 0],

@@ -35,7 +35,7 @@ fn lowest_byte_first() {
     assert_eq!(words[4 * 452..4 * 452 + 17], message);
 }
 
-/// Up to three bytes left over at the end of the numbers are no number.
+/// Bytes behind the last whole number are none.
 #[test]
 fn numbers_left_over() {
     let sound = bytes_of(&two_at_rest());

@@ -42,7 +42,7 @@ fn refused_in_the_middle() {
     assert_eq!(added(&words, 0, &numbers), [1, 0, 0, 0, 0, 0, 0, 0, 5]);
 }
 
-/// 'A refused call that is not a step adds nothing to it.'
+/// A refused call has asked nothing, so it counts nothing.
 #[test]
 fn a_refused_call_counts_nothing() {
     let sound = two_at_rest();

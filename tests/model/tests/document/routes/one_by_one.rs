@@ -1,4 +1,4 @@
-//! 'Outcomes, record and tally equal those of asking one by one', on records
+//! A route leaves what its questions leave when each is asked alone, on records
 //! of every kind.
 
 use ring_model::generator::Generator;

@@ -1,4 +1,4 @@
-//! The questions of the call: 1, 2, 25, 26, in this order, and no others.
+//! What the call itself asks: 1, 2, 25 and 26, in this order, and nothing else.
 
 use ring_model::RECORD_WORDS;
 
