@@ -44,6 +44,12 @@ words-small l w h = go (decLt h (length l))
     go (yes k) = all-mem Word l w (getD l h 0) (mem-at l h 0 k)
     go (no k) = let z : getD l h 0 ≡ 0 = List·getD-eq-default l 0 (omega arith) in omega arith
 
+-- the ledger after some events behind others
+pub members-append : (members : List ℕ) (a b : List Event) → membersAfter members (a ++ b) ≡ membersAfter (membersAfter members a) b
+unfolding membersAfter
+members-append members [] b = refl
+members-append members (e ∷ a) b = members-append (afterOutcome members (e .outcome)) a b
+
 times-append : (a b : List ℕ) (k : ℕ) → times (a ++ b) k ≡ times a k + times b k
 times-append [] b k = omega arith
 times-append (x ∷ a) b k = omega (arith, times-append a b k)
@@ -79,8 +85,7 @@ module _ (ids : List ℕ) where
   -- one event more
   pub members-last : (members : List ℕ) (events : List Event) (e : Event) → membersAfter members (events ++ (e ∷ [])) ≡ afterOutcome (membersAfter members events) (e .outcome)
   unfolding membersAfter
-  members-last members [] e = refl
-  members-last members (x ∷ events) e = members-last (afterOutcome members (x .outcome)) events e
+  members-last members events e = members-append members events (e ∷ [])
 
   accepted-last : (events : List Event) (e : Event) → questionsAccepted (events ++ (e ∷ [])) ≡ questionsAccepted events + acceptedAsk (e .call .operation) (e .outcome)
   unfolding questionsAccepted

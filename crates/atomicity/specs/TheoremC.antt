@@ -26,20 +26,21 @@ use Rattle.atomicity.specs.Theorem.{demand-3}
 use Rattle.atomicity.specs.Small.{reached-words}
 use Rattle.atomicity.specs.Demand3C.{CCall, stepsOf, bytesLeft, CDemand3}
 
--- One call more on a record that was reached.
-history-last : (w : List ℕ) (calls : List Call) (c : Call)
-    → history present w (calls ++ (c ∷ [])) ≡ history present w calls ++ (record { call = c; outcome = called present (recordAfter present w calls) c .outcome } ∷ [])
+-- Some calls behind others.
+pub history-append : (w : List ℕ) (a b : List Call) → history present w (a ++ b) ≡ history present w a ++ history present (recordAfter present w a) b
 unfolding history recordAfter
-history-last w [] c = refl
-history-last w (k ∷ calls) c = ap (λ l. record { call = k; outcome = called present w k .outcome } ∷ l) (history-last (called present w k .slice) calls c)
+history-append w [] b = refl
+history-append w (c ∷ a) b = ap (λ l. record { call = c; outcome = called present w c .outcome } ∷ l) (history-append (called present w c .slice) a b)
 
-record-last : (w : List ℕ) (calls : List Call) (c : Call) → recordAfter present w (calls ++ (c ∷ [])) ≡ called present (recordAfter present w calls) c .slice
+pub record-append : (w : List ℕ) (a b : List Call) → recordAfter present w (a ++ b) ≡ recordAfter present (recordAfter present w a) b
 unfolding recordAfter
-record-last w [] c = refl
-record-last w (k ∷ calls) c = record-last (called present w k .slice) calls c
+record-append w [] b = refl
+record-append w (c ∷ a) b = record-append (called present w c .slice) a b
 
+-- One call more on a record that was reached.
 pub one-more : {ids : List ℕ} {founder : ℕ} {events : List Event} {w : List ℕ} → Founded present ids founder events w → (c : Call) → ThreeWords c
     → Founded present ids founder (events ++ (record { call = c; outcome = called present w c .outcome } ∷ [])) (called present w c .slice)
+unfolding history recordAfter
 one-more {ids} {founder} {events} {w} r c t = record {
   slice = r .slice;
   calls = r .calls ++ (c ∷ []);
@@ -49,8 +50,8 @@ one-more {ids} {founder} {events} {w} r c t = record {
   happened =
       ap (λ l. l ++ (record { call = c; outcome = called present w c .outcome } ∷ [])) (r .happened)
       ∙ ap (λ z. history present (freshByCall (r .slice) ids founder .slice) (r .calls) ++ (record { call = c; outcome = called present z c .outcome } ∷ [])) (r .is)
-      ∙ sym (history-last (freshByCall (r .slice) ids founder .slice) (r .calls) c);
-  is = ap (λ z. called present z c .slice) (r .is) ∙ sym (record-last (freshByCall (r .slice) ids founder .slice) (r .calls) c);
+      ∙ sym (history-append (freshByCall (r .slice) ids founder .slice) (r .calls) (c ∷ []));
+  is = ap (λ z. called present z c .slice) (r .is) ∙ sym (record-append (freshByCall (r .slice) ids founder .slice) (r .calls) (c ∷ []));
 }
 
 -- What a call on the words leaves is what is read from the bytes that it leaves.

@@ -18,7 +18,7 @@ use Rattle.protocol.specs.Step.{Result}
 use Rattle.protocol.specs.Calls.{Called, long, onRecord, written, stepCall}
 use Rattle.protocol.specs.Membership.{afterOutcome}
 use Rattle.protocol.specs.Batch.{askEach, fitting, onBatch, BatchCalled, batchWritten, batchCall, batchOutcomes}
-use Rattle.atomicity.specs.Demand3.{Call, Word, ThreeWords, present, called, Event, history, recordAfter, membersAfter}
+use Rattle.atomicity.specs.Demand3.{Call, Word, ThreeWords, present, history, recordAfter, membersAfter}
 use Rattle.custody.specs.Custody.{Offer, Route, CardCall, step, offer, route, CardEvent, ask, questions, behind, asks, stepEvents, pricesAfter}
 
 -- Of every slice, also of one that no ring made: what the questions get is the history of the asks, and what they leave is the record after them.
@@ -129,26 +129,7 @@ asks-words r h a = tested (All ThreeWords) _ _ _ tt (λ _. tested (All ThreeWord
     each [] a = tt
     each (v ∷ numbers) a = (record { operation = omega arith; x = h; y = a .0 }, each numbers (a .1))
 
--- Some calls, or events, behind others.
-pub words-append : (a b : List Call) → All ThreeWords a → All ThreeWords b → All ThreeWords (a ++ b)
-words-append [] b p q = q
-words-append (c ∷ a) b p q = (p .0, words-append a b (p .1) q)
-
-pub history-append : (w : List ℕ) (a b : List Call) → history present w (a ++ b) ≡ history present w a ++ history present (recordAfter present w a) b
-unfolding history recordAfter
-history-append w [] b = refl
-history-append w (c ∷ a) b = ap (λ l. record { call = c; outcome = called present w c .outcome } ∷ l) (history-append (called present w c .slice) a b)
-
-pub record-append : (w : List ℕ) (a b : List Call) → recordAfter present w (a ++ b) ≡ recordAfter present (recordAfter present w a) b
-unfolding recordAfter
-record-append w [] b = refl
-record-append w (c ∷ a) b = record-append (called present w c .slice) a b
-
-pub members-append : (members : List ℕ) (a b : List Event) → membersAfter members (a ++ b) ≡ membersAfter (membersAfter members a) b
-unfolding membersAfter
-members-append members [] b = refl
-members-append members (e ∷ a) b = members-append (afterOutcome members (e .outcome)) a b
-
+-- The events of a route's questions, in front of others.
 events-append : (hub : ℕ) (numbers : List ℕ) (outcomes : List Outcome) (events : List CardEvent)
     → stepEvents (questions hub numbers outcomes ++ events) ≡ stepEvents (questions hub numbers outcomes) ++ stepEvents events
 unfolding questions stepEvents

@@ -9,7 +9,7 @@ use lib.ListN.{length, getD, set, drop, replicate, length-set, length-map, lengt
 use lib.Seq.{ext-getD, getD-set-same, getD-set-other, getD-take, getD-drop}
 use Rattle.lists.specs.Basics.{if_then_else_, require, Mem, All}
 use Rattle.lists.specs.Choice.{granted, tested}
-use Rattle.lists.specs.Members.{mem-at, by-row}
+use Rattle.lists.specs.Members.{mem-at, by-row, all-append}
 use Rattle.lists.specs.Tests.{Distinct}
 use Rattle.protocol.specs.declared.Card.{Card}
 use Rattle.protocol.specs.declared.Message.{Message}
@@ -34,10 +34,11 @@ use Rattle.cardlayout.specs.Sound.{book-well-formed}
 use Rattle.atomicity.specs.Members.{mark-head, mark-tail, struck-same, struck-other, takenIn-same, takenIn-other, mem-marked as mem-mark, marked as mark-mem}
 use Rattle.atomicity.specs.Demand3.{Call, Word, ThreeWords, present, called, Event, history, recordAfter, membersAfter, from-fresh, Claims, Demand3}
 use Rattle.atomicity.specs.Engines.{refused-answered, present-laws}
-use Rattle.atomicity.specs.Theorem.{members-last, Course, members-below, runs, reached-course, demand-3}
+use Rattle.atomicity.specs.Theorem.{members-append, members-last, Course, members-below, runs, reached-course, demand-3}
+use Rattle.atomicity.specs.TheoremC.{history-append, record-append}
 use Rattle.custody.specs.Lasting.{Some, some-kept}
 use Rattle.custody.specs.Custody.{Offer, Route, CardCall, step, offer, route, InWords, made, CardEvent, behind, cardHistory, wordsAfter, cardsAfter, asks, steps, stepEvents, pricesThen, pricesAfter, priced, Custody}
-use Rattle.custody.specs.Routes.{route-history, route-record, route-stays, behind-prices, asks-words, words-append, history-append, record-append, members-append, route-append}
+use Rattle.custody.specs.Routes.{route-history, route-record, route-stays, behind-prices, asks-words, route-append}
 use Rattle.custody.specs.Offers.{Fair, offer-fair}
 use Rattle.custody.specs.Kept.{Ledger, Kept, to-marked, from-marked, book-form, moves, takes}
 
@@ -364,7 +365,7 @@ unfolding steps
 steps-words [] a = tt
 steps-words (step c ∷ calls) a = (a .0, steps-words calls (a .1))
 steps-words (offer o ∷ calls) a = steps-words calls (a .1)
-steps-words (route r ∷ calls) a = words-append (asks r) (steps calls) (asks-words r (a .0 .0) (a .0 .1)) (steps-words calls (a .1))
+steps-words (route r ∷ calls) a = all-append ThreeWords (asks r) (steps calls) (asks-words r (a .0 .0) (a .0 .1)) (steps-words calls (a .1))
 
 -- What a fresh call with cards has accepted, and what it wrote.
 record Made (slice book ids : List ℕ) (founder : ℕ) : Type 0 where
