@@ -1,8 +1,8 @@
 -- DEMAND 3 of the C calls, proved: the words that the bytes carry go through the steps of the calls that made one. Assumes nothing.
 use mathlib.Core.Path.{_≡_, refl, sym, _∙_, ap, subst}
 use mathlib.Core.Bool.{Bool, true, false}
-use mathlib.Core.List.{List, [], _∷_, _++_, append-assoc, append-nil}
-use Prim.Native.Nat.{ℕ}
+use mathlib.Core.List.{List, [], _∷_, _++_, map, append-assoc, append-nil}
+use Prim.Native.Nat.{ℕ, _/_}
 use native.Mathlib.Omega.{arith}
 use lib.Dec.{leb}
 use lib.ListN.{length}
@@ -11,20 +11,22 @@ use Rattle.lists.specs.Choice.{tested}
 use Rattle.lists.specs.Members.{all-append}
 use Rattle.protocol.specs.declared.Answer.the-variants.{Quiet}
 use Rattle.protocol.specs.declared.Outcome.the-variants.{Answered}
-use Rattle.protocol.specs.Names.{RECORD-SHORT, NOT-WELL-FORMED, OUTPUT-SHORT}
+use Rattle.protocol.specs.Names.{RECORD-SHORT, NOT-WELL-FORMED, OUTPUT-SHORT, ROUTE-LONG, PLACES-SHORT}
 use Rattle.protocol.specs.Record.{read}
 use Rattle.protocol.specs.WellFormed.{wellFormed}
-use Rattle.protocol.specs.Step.{Result, refused, accepted, step}
+use Rattle.protocol.specs.Step as meaning
+use Rattle.protocol.specs.Step.{Result, refused, accepted}
 use Rattle.protocol.specs.Calls.{Called, long, onRecord, turnedDown, written, stepCall, freshByCall}
 use Rattle.protocol.specs.Answers.{refusal}
-use Rattle.protocol.specs.Bytes.{Byte, wordsOf, bytesAfter, CalledBytes, carried, stepBytes, freshCarried, freshByBytes}
+use Rattle.protocol.specs.Bytes.{Byte, wordsOf, over, bytesAfter, carried, stepBytes, freshCarried, freshByBytes}
+use Rattle.protocol.specs.Batch.{askEach, mostQuestions, placeSize, fitting, onBatch, BatchCalled, unasked, batchWritten, batchCall, batchCarried, batchBytes}
 use Rattle.layout.specs.Bytes.{words-below, written-read}
 use Rattle.layout.specs.Questions.{fresh-cases}
 use Rattle.atomicity.specs.Demand3.{Call, ThreeWords, Event, Word, present, called, history, recordAfter, Founded, from-fresh, Claims, Demand3}
 use Rattle.atomicity.specs.Record.{step-sound, fresh-sound}
 use Rattle.atomicity.specs.Theorem.{demand-3}
 use Rattle.atomicity.specs.Small.{reached-words}
-use Rattle.atomicity.specs.Demand3C.{CCall, stepsOf, bytesLeft, CDemand3}
+use Rattle.atomicity.specs.Demand3C.{CCall, step, route, Passed, calledBytes, ask, stepOf, stepsOf, bytesLeft, CDemand3}
 
 -- Some calls behind others.
 pub history-append : (w : List ℕ) (a b : List Call) → history present w (a ++ b) ≡ history present w a ++ history present (recordAfter present w a) b
@@ -37,22 +39,38 @@ unfolding recordAfter
 record-append w [] b = refl
 record-append w (c ∷ a) b = record-append (called present w c .slice) a b
 
--- One call more on a record that was reached.
-pub one-more : {ids : List ℕ} {founder : ℕ} {events : List Event} {w : List ℕ} → Founded present ids founder events w → (c : Call) → ThreeWords c
-    → Founded present ids founder (events ++ (record { call = c; outcome = called present w c .outcome } ∷ [])) (called present w c .slice)
-unfolding history recordAfter
-one-more {ids} {founder} {events} {w} r c t = record {
+-- Some calls more on a record that was reached.
+pub some-more : {ids : List ℕ} {founder : ℕ} {events : List Event} {w : List ℕ} → Founded present ids founder events w → (calls : List Call) → All ThreeWords calls
+    → Founded present ids founder (events ++ history present w calls) (recordAfter present w calls)
+some-more {ids} {founder} {events} {w} r calls t = record {
   slice = r .slice;
-  calls = r .calls ++ (c ∷ []);
+  calls = r .calls ++ calls;
   identifiers = r .identifiers;
-  commands = all-append ThreeWords (r .calls) (c ∷ []) (r .commands) (t, tt);
+  commands = all-append ThreeWords (r .calls) calls (r .commands) t;
   accepted = r .accepted;
   happened =
-      ap (λ l. l ++ (record { call = c; outcome = called present w c .outcome } ∷ [])) (r .happened)
-      ∙ ap (λ z. history present (freshByCall (r .slice) ids founder .slice) (r .calls) ++ (record { call = c; outcome = called present z c .outcome } ∷ [])) (r .is)
-      ∙ sym (history-append (freshByCall (r .slice) ids founder .slice) (r .calls) (c ∷ []));
-  is = ap (λ z. called present z c .slice) (r .is) ∙ sym (record-append (freshByCall (r .slice) ids founder .slice) (r .calls) (c ∷ []));
+      ap (λ l. l ++ history present w calls) (r .happened)
+      ∙ ap (λ z. history present (freshByCall (r .slice) ids founder .slice) (r .calls) ++ history present z calls) (r .is)
+      ∙ sym (history-append (freshByCall (r .slice) ids founder .slice) (r .calls) calls);
+  is = ap (λ z. recordAfter present z calls) (r .is) ∙ sym (record-append (freshByCall (r .slice) ids founder .slice) (r .calls) calls);
 }
+
+-- Calls leave the record as long as it was.
+same-size : (w : List ℕ) (calls : List Call) → length (recordAfter present w calls) ≡ length w
+unfolding recordAfter
+same-size w [] = refl
+same-size w (c ∷ calls) = same-size (called present w c .slice) calls ∙ step-sound w (c .operation) (c .x) (c .y) .0 .size
+
+-- What the questions of a route leave is the record after the steps that ask them.
+pub asked-record : (w : List ℕ) (hub : ℕ) (numbers : List ℕ) → askEach w hub numbers .slice ≡ recordAfter present w (map (ask hub) numbers)
+unfolding askEach recordAfter
+asked-record w hub [] = refl
+asked-record w hub (v ∷ numbers) = asked-record (stepCall w 0 hub v .slice) hub numbers
+
+-- The numbers of these steps have 32 bits.
+pub asks-words : (hub : ℕ) → Word hub → (numbers : List ℕ) → All Word numbers → All ThreeWords (map (ask hub) numbers)
+asks-words hub h [] a = tt
+asks-words hub h (v ∷ numbers) a = (record { operation = omega arith; x = h; y = a .0 }, asks-words hub h numbers (a .1))
 
 -- What a call on the words leaves is what is read from the bytes that it leaves.
 module _ (b : List ℕ) where
@@ -72,7 +90,7 @@ module _ (b : List ℕ) where
   unfolding stepCall onRecord
   step-back operation x y =
       tested Back (long (wordsOf b)) _ _ (turned-back RECORD-SHORT)
-      (λ l. tested Back (wellFormed (wordsOf b)) _ _ (turned-back NOT-WELL-FORMED) (λ f. written-back (step (read (wordsOf b)) operation x y)))
+      (λ l. tested Back (wellFormed (wordsOf b)) _ _ (turned-back NOT-WELL-FORMED) (λ f. written-back (meaning.step (read (wordsOf b)) operation x y)))
 
   fresh-back : (ids : List ℕ) (founder : ℕ) → Back (freshByCall (wordsOf b) ids founder)
   fresh-back ids founder = fresh-cases (wordsOf b) ids founder Back (λ k l m. turned-back k) (λ a. written-back (accepted Quiet _))
@@ -90,32 +108,63 @@ event b c = record { call = c; outcome = called present (wordsOf b) c .outcome }
 
 steps-on : (ids : List ℕ) (founder : ℕ) (events : List Event) (b : List ℕ) → At ids founder events b → (c : Call) → ThreeWords c
     → At ids founder (events ++ (event b c ∷ [])) (bytesAfter b (called present (wordsOf b) c .slice) (called present (wordsOf b) c .outcome))
-unfolding Back one-more
+unfolding Back some-more history recordAfter
 steps-on ids founder events b r c t =
-    let next = one-more (r .0) c t in
+    let next = some-more (r .0) (c ∷ []) (t, tt) in
     subst (Reach ids founder (events ++ (event b c ∷ [])))
     (sym (step-back b (c .operation) (c .x) (c .y) (reached-words next (r .1)) (step-sound (wordsOf b) (c .operation) (c .x) (c .y) .0 .size)))
     (next, r .1)
 
+-- A call that asks a route's numbers.
+asks-on : (ids : List ℕ) (founder : ℕ) (events : List Event) (b : List ℕ) → At ids founder events b → (hub : ℕ) (numbers : List ℕ) → Word hub → All Word numbers
+    → At ids founder (events ++ history present (wordsOf b) (map (ask hub) numbers)) (over b (askEach (wordsOf b) hub numbers .slice))
+unfolding some-more
+asks-on ids founder events b r hub numbers h a =
+    let asks = map (ask hub) numbers in
+    let next = some-more (r .0) asks (asks-words hub h numbers a) in
+    let left = recordAfter present (wordsOf b) asks in
+    subst (λ z. At ids founder (events ++ history present (wordsOf b) asks) (over b z)) (sym (asked-record (wordsOf b) hub numbers))
+    (subst (Reach ids founder (events ++ history present (wordsOf b) asks))
+    (sym (written-read b left (reached-words next (r .1)) (same-size (wordsOf b) asks)))
+    (next, r .1))
+
+-- Every call, by what it asks first.
+module _ (ids : List ℕ) (founder : ℕ) (events : List Event) (b : List ℕ) (r : At ids founder events b) where
+  none : At ids founder (events ++ []) b
+  none = subst (λ l. At ids founder l b) (sym (append-nil events)) r
+
+  one-call : (c : CCall) → Passed c → At ids founder (events ++ stepOf b c) (calledBytes b c .bytes)
+  unfolding stepBytes carried batchBytes batchCarried batchCall batchWritten onBatch onRecord fitting require if_then_else_ bytesAfter
+  one-call (step c out) t = go (leb 20 (length out))
+    where
+      go : (z : Bool) → At ids founder (events ++ require z [] (event b c ∷ [])) (require z (record { code = OUTPUT-SHORT; bytes = b; output = out }) (carried b out (called present (wordsOf b) c)) .bytes)
+      go true = steps-on ids founder events b r c t
+      go false = none
+  one-call (route hub numbers out) t =
+      go (long (wordsOf b)) (wellFormed (wordsOf b)) (leb (length (wordsOf numbers)) mostQuestions) (leb (length (wordsOf numbers)) (length (wordsOf out) / placeSize))
+    where
+      four : {A : Type 0} → (ℕ → A) → A → Bool → Bool → Bool → Bool → A
+      four no-result rest p q u v =
+          require p (no-result RECORD-SHORT) (require q (no-result NOT-WELL-FORMED) (require u (no-result ROUTE-LONG) (require v (no-result PLACES-SHORT) rest)))
+
+      called-by : Bool → Bool → Bool → Bool → BatchCalled
+      called-by = four (unasked (wordsOf b) (wordsOf out)) (batchWritten (wordsOf numbers) (wordsOf out) (askEach (wordsOf b) hub (wordsOf numbers)))
+
+      go : (p q u v : Bool) → At ids founder (events ++ four (λ k. []) (history present (wordsOf b) (map (ask hub) (wordsOf numbers))) p q u v) (batchCarried b out (called-by p q u v) .bytes)
+      go true true true true = asks-on ids founder events b r hub (wordsOf numbers) (t .0) (words-below numbers (t .1))
+      go true true true false = none
+      go true true false v = none
+      go true false u v = none
+      go false q u v = none
+
 -- Every list of calls.
-every-call : (ids : List ℕ) (founder : ℕ) (events : List Event) (b : List ℕ) → At ids founder events b → (calls : List CCall) → All (λ c. ThreeWords (c .call)) calls
+every-call : (ids : List ℕ) (founder : ℕ) (events : List Event) (b : List ℕ) → At ids founder events b → (calls : List CCall) → All Passed calls
     → At ids founder (events ++ stepsOf b calls) (bytesLeft b calls)
-unfolding stepsOf bytesLeft stepBytes carried require if_then_else_
+unfolding stepsOf bytesLeft
 every-call ids founder events b r [] t = subst (λ l. At ids founder l b) (sym (append-nil events)) r
-every-call ids founder events b r (c ∷ calls) t = go (leb 20 (length (c .out))) (λ e d k. every-call ids founder e d k calls (t .1))
-  where
-    stepped : CalledBytes
-    stepped = carried b (c .out) (called present (wordsOf b) (c .call))
-
-    left : Bool → List ℕ
-    left z = require z (record { code = OUTPUT-SHORT; bytes = b; output = c .out }) stepped .bytes
-
-    go : (z : Bool) → ((e : List Event) (d : List ℕ) → At ids founder e d → At ids founder (e ++ stepsOf d calls) (bytesLeft d calls))
-        → At ids founder (events ++ (require z [] (event b (c .call) ∷ []) ++ stepsOf (left z) calls)) (bytesLeft (left z) calls)
-    go true more =
-        subst (λ l. At ids founder l (bytesLeft (left true) calls)) (append-assoc events (event b (c .call) ∷ []) (stepsOf (left true) calls))
-        (more (events ++ (event b (c .call) ∷ [])) (left true) (steps-on ids founder events b r (c .call) (t .0)))
-    go false more = more events b r
+every-call ids founder events b r (c ∷ calls) t =
+    subst (λ l. At ids founder l (bytesLeft (calledBytes b c .bytes) calls)) (append-assoc events (stepOf b c) (stepsOf (calledBytes b c .bytes) calls))
+    (every-call ids founder (events ++ stepOf b c) (calledBytes b c .bytes) (one-call ids founder events b r c (t .0)) calls (t .1))
 
 -- A fresh call that returns 0 was accepted.
 fresh-zero : (w ids : List ℕ) (founder : ℕ) → refusal (freshByCall w ids founder .outcome) ≡ 0 → freshByCall w ids founder .outcome ≡ Answered Quiet

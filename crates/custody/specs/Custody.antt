@@ -19,6 +19,7 @@ use Rattle.protocol.specs.Calls.{freshByCall}
 use Rattle.protocol.specs.Batch.{fitting, BatchCalled, batchCall, batchOutcomes}
 use Rattle.protocol.specs.Cards.{cardStart, cardsIn, cardFrom, readBook, CardsCalled, onBoth, stepCards, offerCall, freshByCards}
 use Rattle.atomicity.specs.Demand3.{Call, Word, ThreeWords, Event, present, history, recordAfter, membersAfter, Claims}
+use Rattle.atomicity.specs.Demand3C.{ask}
 
 -- An offered card: its hub is not passed.
 pub record Offer : Type 0 where
@@ -57,11 +58,7 @@ pub record CardEvent : Type 0 where
   pub call : CardCall
   pub outcome : Outcome
 
--- A question of a route is the step that asks it.
-abbrev pub ask : ℕ → ℕ → Call
-ask hub v = record { operation = 0; x = hub; y = v }
-
--- So each number with its outcome is the event of a step.
+-- A question of a route is the step that asks it (`ask`), so each number with its outcome is the event of a step.
 unfoldable pub questions : ℕ → List ℕ → List Outcome → List CardEvent
 questions hub [] outcomes = []
 questions hub (v ∷ numbers) [] = []

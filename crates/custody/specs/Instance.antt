@@ -18,7 +18,8 @@ use Rattle.protocol.specs.Batch.{fitting}
 use Rattle.atomicity.specs.Demand3.{Call}
 use Rattle.atomicity.specs.Instance.{two}
 use Rattle.atomicity.specs.Record.{fresh-gives}
-use Rattle.custody.specs.Custody.{CardCall, step, offer, route, InWords, ask, cardHistory, wordsAfter, cardsAfter, steps, CardClaims, Custody}
+use Rattle.atomicity.specs.Demand3C.{ask}
+use Rattle.custody.specs.Custody.{CardCall, step, offer, route, InWords, cardHistory, wordsAfter, cardsAfter, steps, CardClaims, Custody}
 use Rattle.custody.specs.Theorem.{custody}
 
 -- What is claimed of the slices that a fresh call with cards left, after any list of steps, offers and routes.

@@ -24,7 +24,8 @@ use Rattle.protocol.specs.Membership.{nearer, ownerAmong, mark}
 use Rattle.protocol.specs.Cards.{bookSize, hubOf, readBook, CardsCalled, unchanged, bothLong, onBoth, stepCards}
 use Rattle.layout.specs.Words.{read-words}
 use Rattle.atomicity.specs.Demand3.{Call, Event, history, recordAfter, membersAfter}
-use Rattle.custody.specs.Custody.{Offer, Route, CardEvent, step, offer, route, ask, steps, stepEvents, put, pricesAfter, CardClaims}
+use Rattle.atomicity.specs.Demand3C.{ask}
+use Rattle.custody.specs.Custody.{Offer, Route, CardEvent, step, offer, route, steps, stepEvents, put, pricesAfter, CardClaims}
 
 abbrev two : List ℕ
 two = 100 ∷ 200 ∷ []

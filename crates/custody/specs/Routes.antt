@@ -3,7 +3,6 @@ use mathlib.Core.Path.{_≡_, refl, _∙_, ap}
 use mathlib.Core.Bool.{Bool, true, false}
 use mathlib.Core.List.{List, [], _∷_, _++_, map}
 use Prim.Native.Nat.{ℕ}
-use native.Mathlib.Omega.{arith}
 use lib.Dec.{T}
 use Rattle.lists.specs.Basics.{if_then_else_, require, All}
 use Rattle.lists.specs.Choice.{tested, granted}
@@ -19,21 +18,18 @@ use Rattle.protocol.specs.Calls.{Called, long, onRecord, written, stepCall}
 use Rattle.protocol.specs.Membership.{afterOutcome}
 use Rattle.protocol.specs.Batch.{askEach, fitting, onBatch, BatchCalled, batchWritten, batchCall, batchOutcomes}
 use Rattle.atomicity.specs.Demand3.{Call, Word, ThreeWords, present, history, recordAfter, membersAfter}
-use Rattle.custody.specs.Custody.{Offer, Route, CardCall, step, offer, route, CardEvent, ask, questions, behind, asks, stepEvents, pricesAfter}
+use Rattle.atomicity.specs.Demand3C.{ask}
+use Rattle.atomicity.specs.TheoremC.{asked-record, asks-words}
+use Rattle.custody.specs.Custody.{Offer, Route, CardCall, step, offer, route, CardEvent, questions, behind, asks, stepEvents, pricesAfter}
 
--- Of every slice, also of one that no ring made: what the questions get is the history of the asks, and what they leave is the record after them.
--- So a list with routes is, for demand 3, a list of steps, and its theorem says of routes all that it says of steps.
+-- Of every slice, also of one that no ring made: what the questions get is the history of the asks (and what they leave is the record after them:
+-- `asked-record`). So a list with routes is, for demand 3, a list of steps, and its theorem says of routes all that it says of steps.
 pub asked-history : (w : List ℕ) (hub : ℕ) (numbers : List ℕ)
     → stepEvents (questions hub numbers (askEach w hub numbers .outcomes)) ≡ history present w (map (ask hub) numbers)
 unfolding stepEvents questions askEach history
 asked-history w hub [] = refl
 asked-history w hub (v ∷ numbers) =
     ap (λ l. record { call = ask hub v; outcome = stepCall w 0 hub v .outcome } ∷ l) (asked-history (stepCall w 0 hub v .slice) hub numbers)
-
-pub asked-record : (w : List ℕ) (hub : ℕ) (numbers : List ℕ) → askEach w hub numbers .slice ≡ recordAfter present w (map (ask hub) numbers)
-unfolding askEach recordAfter
-asked-record w hub [] = refl
-asked-record w hub (v ∷ numbers) = asked-record (stepCall w 0 hub v .slice) hub numbers
 
 none-asked : (hub : ℕ) (numbers : List ℕ) → questions hub numbers [] ≡ []
 unfolding questions
@@ -121,13 +117,9 @@ behind-prices prices w (offer o) events = refl
 behind-prices prices w (route r) events = questions-prices prices (r .hub) (r .numbers) (batchOutcomes w (r .hub) (r .numbers) (r .out)) events
 
 -- The asks' numbers.
-pub asks-words : (r : Route) → Word (r .hub) → All Word (r .numbers) → All ThreeWords (asks r)
+pub route-words : (r : Route) → Word (r .hub) → All Word (r .numbers) → All ThreeWords (asks r)
 unfolding fitting
-asks-words r h a = tested (All ThreeWords) _ _ _ tt (λ _. tested (All ThreeWords) _ _ _ tt (λ _. each (r .numbers) a))
-  where
-    each : (numbers : List ℕ) → All Word numbers → All ThreeWords (map (ask (r .hub)) numbers)
-    each [] a = tt
-    each (v ∷ numbers) a = (record { operation = omega arith; x = h; y = a .0 }, each numbers (a .1))
+route-words r h a = tested (All ThreeWords) _ _ _ tt (λ _. tested (All ThreeWords) _ _ _ tt (λ _. asks-words (r .hub) h (r .numbers) a))
 
 -- The events of a route's questions, in front of others.
 events-append : (hub : ℕ) (numbers : List ℕ) (outcomes : List Outcome) (events : List CardEvent)

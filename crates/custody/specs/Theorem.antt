@@ -38,7 +38,7 @@ use Rattle.atomicity.specs.Theorem.{members-append, members-last, Course, membe
 use Rattle.atomicity.specs.TheoremC.{history-append, record-append}
 use Rattle.custody.specs.Lasting.{Some, some-kept}
 use Rattle.custody.specs.Custody.{Offer, Route, CardCall, step, offer, route, InWords, made, CardEvent, behind, cardHistory, wordsAfter, cardsAfter, asks, steps, stepEvents, pricesThen, pricesAfter, priced, Custody}
-use Rattle.custody.specs.Routes.{route-history, route-record, route-stays, behind-prices, asks-words, route-append}
+use Rattle.custody.specs.Routes.{route-history, route-record, route-stays, behind-prices, route-words, route-append}
 use Rattle.custody.specs.Offers.{Fair, offer-fair}
 use Rattle.custody.specs.Kept.{Ledger, Kept, to-marked, from-marked, book-form, moves, takes}
 
@@ -238,7 +238,7 @@ module _ (ids : List ℕ) (founder : ℕ) (rest : List ℕ) where
     -- one route: its asks as steps, which leave ledger and cards
     asked : (r : Route) → InWords (route r) → Stage (events ++ history present w (asks r)) prices (recordAfter present w (asks r)) k
     asked r a = record {
-      course = runs ids founder present present-laws Some (some-kept ids) events w (S .course) (asks r) (asks-words r (a .0) (a .1));
+      course = runs ids founder present present-laws Some (some-kept ids) events w (S .course) (asks r) (route-words r (a .0) (a .1));
       book = b;
       holds = subst (λ z. Kept ids z b prices) (sym (members-append (foundingMembers founder) events (history present w (asks r)) ∙ route-stays (members events) w r)) K;
       is = S .is;
@@ -365,7 +365,7 @@ unfolding steps
 steps-words [] a = tt
 steps-words (step c ∷ calls) a = (a .0, steps-words calls (a .1))
 steps-words (offer o ∷ calls) a = steps-words calls (a .1)
-steps-words (route r ∷ calls) a = all-append ThreeWords (asks r) (steps calls) (asks-words r (a .0 .0) (a .0 .1)) (steps-words calls (a .1))
+steps-words (route r ∷ calls) a = all-append ThreeWords (asks r) (steps calls) (route-words r (a .0 .0) (a .0 .1)) (steps-words calls (a .1))
 
 -- What a fresh call with cards has accepted, and what it wrote.
 record Made (slice book ids : List ℕ) (founder : ℕ) : Type 0 where
