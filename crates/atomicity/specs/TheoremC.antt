@@ -2,7 +2,7 @@
 use mathlib.Core.Path.{_≡_, refl, sym, _∙_, ap, subst}
 use mathlib.Core.Bool.{Bool, true, false}
 use mathlib.Core.List.{List, [], _∷_, _++_, map, append-assoc, append-nil}
-use Prim.Native.Nat.{ℕ, _/_}
+use Prim.Native.Nat.{ℕ}
 use native.Mathlib.Omega.{arith}
 use lib.Dec.{leb}
 use lib.ListN.{length}
@@ -11,7 +11,7 @@ use Rattle.lists.specs.Choice.{tested}
 use Rattle.lists.specs.Members.{all-append}
 use Rattle.protocol.specs.declared.Answer.the-variants.{Quiet}
 use Rattle.protocol.specs.declared.Outcome.the-variants.{Answered}
-use Rattle.protocol.specs.Names.{RECORD-SHORT, NOT-WELL-FORMED, OUTPUT-SHORT, ROUTE-LONG, PLACES-SHORT}
+use Rattle.protocol.specs.Names.{RECORD-SHORT, NOT-WELL-FORMED, OUTPUT-SHORT}
 use Rattle.protocol.specs.Record.{read}
 use Rattle.protocol.specs.WellFormed.{wellFormed}
 use Rattle.protocol.specs.Step as meaning
@@ -19,9 +19,9 @@ use Rattle.protocol.specs.Step.{Result, refused, accepted}
 use Rattle.protocol.specs.Calls.{Called, long, onRecord, turnedDown, written, stepCall, freshByCall}
 use Rattle.protocol.specs.Answers.{refusal}
 use Rattle.protocol.specs.Bytes.{Byte, wordsOf, over, bytesAfter, carried, stepBytes, freshCarried, freshByBytes}
-use Rattle.protocol.specs.Batch.{askEach, mostQuestions, placeSize, fitting, onBatch, BatchCalled, unasked, batchWritten, batchCall, batchCarried, batchBytes}
+use Rattle.protocol.specs.Batch.{askEach, unasked, batchWritten, batchCall, batchCarried, batchBytes}
 use Rattle.layout.specs.Bytes.{words-below, written-read}
-use Rattle.layout.specs.Questions.{fresh-cases}
+use Rattle.layout.specs.Questions.{fresh-cases, batch-both}
 use Rattle.atomicity.specs.Demand3.{Call, ThreeWords, Event, Word, present, called, history, recordAfter, Founded, from-fresh, Claims, Demand3}
 use Rattle.atomicity.specs.Record.{step-sound, fresh-sound}
 use Rattle.atomicity.specs.Theorem.{demand-3}
@@ -134,28 +134,16 @@ module _ (ids : List ℕ) (founder : ℕ) (events : List Event) (b : List ℕ) (
   none = subst (λ l. At ids founder l b) (sym (append-nil events)) r
 
   one-call : (c : CCall) → Passed c → At ids founder (events ++ stepOf b c) (calledBytes b c .bytes)
-  unfolding stepBytes carried batchBytes batchCarried batchCall batchWritten onBatch onRecord fitting require if_then_else_ bytesAfter
+  unfolding stepBytes carried batchBytes batchCarried batchCall batchWritten require if_then_else_ bytesAfter
   one-call (step c out) t = go (leb 20 (length out))
     where
       go : (z : Bool) → At ids founder (events ++ require z [] (event b c ∷ [])) (require z (record { code = OUTPUT-SHORT; bytes = b; output = out }) (carried b out (called present (wordsOf b) c)) .bytes)
       go true = steps-on ids founder events b r c t
       go false = none
   one-call (route hub numbers out) t =
-      go (long (wordsOf b)) (wellFormed (wordsOf b)) (leb (length (wordsOf numbers)) mostQuestions) (leb (length (wordsOf numbers)) (length (wordsOf out) / placeSize))
-    where
-      four : {A : Type 0} → (ℕ → A) → A → Bool → Bool → Bool → Bool → A
-      four no-result rest p q u v =
-          require p (no-result RECORD-SHORT) (require q (no-result NOT-WELL-FORMED) (require u (no-result ROUTE-LONG) (require v (no-result PLACES-SHORT) rest)))
-
-      called-by : Bool → Bool → Bool → Bool → BatchCalled
-      called-by = four (unasked (wordsOf b) (wordsOf out)) (batchWritten (wordsOf numbers) (wordsOf out) (askEach (wordsOf b) hub (wordsOf numbers)))
-
-      go : (p q u v : Bool) → At ids founder (events ++ four (λ k. []) (history present (wordsOf b) (map (ask hub) (wordsOf numbers))) p q u v) (batchCarried b out (called-by p q u v) .bytes)
-      go true true true true = asks-on ids founder events b r hub (wordsOf numbers) (t .0) (words-below numbers (t .1))
-      go true true true false = none
-      go true true false v = none
-      go true false u v = none
-      go false q u v = none
+      batch-both (λ z e. At ids founder (events ++ e) (batchCarried b out z .bytes)) (wordsOf b) (wordsOf numbers) (wordsOf out) (unasked (wordsOf b) (wordsOf out)) (λ k. [])
+      (batchWritten (wordsOf numbers) (wordsOf out) (askEach (wordsOf b) hub (wordsOf numbers))) (history present (wordsOf b) (map (ask hub) (wordsOf numbers)))
+      (λ k. none) (λ l. asks-on ids founder events b r hub (wordsOf numbers) (t .0) (words-below numbers (t .1)))
 
 -- Every list of calls.
 every-call : (ids : List ℕ) (founder : ℕ) (events : List Event) (b : List ℕ) → At ids founder events b → (calls : List CCall) → All Passed calls

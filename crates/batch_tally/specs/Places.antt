@@ -1,15 +1,14 @@
 -- The questions of a batch counted by their places: that this is counting them one by one. Assumes nothing.
 use mathlib.Core.Path.{_≡_, refl, ap, sym, _∙_, subst}
-use mathlib.Core.Bool.{Bool, true, false}
 use mathlib.Core.List.{List, [], _∷_, _++_, append-assoc}
-use Prim.Native.Nat.{ℕ, zero, suc, _+_, _*_, _/_, _≤_, _<_}
+use Prim.Native.Nat.{ℕ, zero, suc, _+_, _*_, _≤_, _<_}
 use native.Mathlib.Omega.{arith}
 use native.Mathlib.Numerals.{add-one}
-use lib.Dec.{T, leb, eqb, leb→le}
+use lib.Dec.{eqb}
 use lib.ListN.{length, take, drop, getD}
 use lib.Seq.{take-suc, take-length, getD-at, getD-append-add}
 use borrow.Author.Tests.{ne-eqb}
-use Rattle.lists.specs.Basics.{if_then_else_, require, flat, All}
+use Rattle.lists.specs.Basics.{if_then_else_, flat, All}
 use Rattle.lists.specs.Choice.{tested}
 use Rattle.lists.specs.Members.{all-mem, mem-at}
 use Rattle.lists.specs.Blocks.{flat-split, length-front}
@@ -20,14 +19,14 @@ use Rattle.protocol.specs.declared.Outcome.the-variants.{Refused, Answered}
 use Rattle.protocol.specs.declared.Route.{Route}
 use Rattle.protocol.specs.declared.Route.the-variants.{Own, To}
 use Rattle.protocol.specs.declared.Tally.{Tally}
-use Rattle.protocol.specs.Names.{NOT-WELL-FORMED, PLACES-SHORT, RECORD-SHORT, REFUSAL, ROUTE-LONG}
+use Rattle.protocol.specs.Names.{REFUSAL}
 use Rattle.protocol.specs.Record.{row, identifier, read}
-use Rattle.protocol.specs.WellFormed.{wellFormed}
 use Rattle.protocol.specs.Routing.{onward}
 use Rattle.protocol.specs.Step.{Result, refused, accepted, asking, ask, step}
 use Rattle.protocol.specs.Answers.{answerWords, kindOf, countOf, raisedAt, counted}
-use Rattle.protocol.specs.Calls.{Called, long, onRecord, written, stepCall}
-use Rattle.protocol.specs.Batch.{askEach, placeSize, placeWords, mostQuestions, fitting, onBatch, BatchCalled, unasked, batchWritten, batchCall, batchOutcomes, countedAll}
+use Rattle.protocol.specs.Calls.{Called, onRecord, written, stepCall}
+use Rattle.protocol.specs.Batch.{askEach, placeSize, placeWords, BatchCalled, unasked, batchWritten, batchCall, batchOutcomes, countedAll}
+use Rattle.layout.specs.Questions.{batch-both}
 use Rattle.batches.specs.Each.{length-asked, place-size}
 
 -- How many places a call with n numbers has written.
@@ -153,25 +152,10 @@ module _ (w : List ℕ) (hub : ℕ) (numbers out : List ℕ) where
     pub room : placeSize * writtenPlaces (c .outcome) (length numbers) ≤ length out
     pub tally : (t : Tally) → countedPlaces t (c .output) (writtenPlaces (c .outcome) (length numbers)) ≡ countedAll t outcomes
 
-  -- by the four tests of the call
-  four : {A : Type 0} → (ℕ → A) → A → Bool → Bool → Bool → Bool → A
-  four no-result rest b c d e =
-      require b (no-result RECORD-SHORT) (require c (no-result NOT-WELL-FORMED) (require d (no-result ROUTE-LONG) (require e (no-result PLACES-SHORT) rest)))
-
-  by-tests : (b c d e : Bool) → (T e → length numbers ≤ length out / placeSize)
-      → Counted (four (unasked w out) (batchWritten numbers out (askEach w hub numbers)) b c d e) (four (λ k. []) (askEach w hub numbers .outcomes) b c d e)
-  unfolding four require if_then_else_ batchWritten writtenPlaces countedPlaces countedAll
-  by-tests true true true true f = record {
-    room = (let l = f tt in omega arith);
-    tally = λ t. each-counted t w hub numbers (drop (placeSize * length numbers) out);
-  }
-  by-tests true true true false f = record { room = omega arith; tally = λ t. refl }
-  by-tests true true false e f = record { room = omega arith; tally = λ t. refl }
-  by-tests true false d e f = record { room = omega arith; tally = λ t. refl }
-  by-tests false c d e f = record { room = omega arith; tally = λ t. refl }
-
   pub call-counts : (c : BatchCalled) → batchCall w hub numbers out ≡ c → Counted c (batchOutcomes w hub numbers out)
-  unfolding batchCall batchOutcomes onBatch onRecord fitting four
+  unfolding batchCall batchOutcomes batchWritten writtenPlaces countedPlaces countedAll
   call-counts c e =
       subst (λ z. Counted z (batchOutcomes w hub numbers out)) e
-      (by-tests (long w) (wellFormed w) (leb (length numbers) mostQuestions) (leb (length numbers) (length out / placeSize)) (leb→le _ _))
+      (batch-both Counted w numbers out (unasked w out) (λ k. []) (batchWritten numbers out (askEach w hub numbers)) (askEach w hub numbers .outcomes)
+      (λ k. record { room = omega arith; tally = λ t. refl })
+      (λ l. record { room = omega arith; tally = λ t. each-counted t w hub numbers (drop (placeSize * length numbers) out) }))

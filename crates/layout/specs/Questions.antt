@@ -1,22 +1,23 @@
--- Questions 1 and 2 in the words' terms, and those of a fresh call. Assumes nothing.
+-- Questions 1 and 2 in the words' terms, those of a fresh call, and those of a route. Assumes nothing.
 use mathlib.Core.Path.{_≡_, _∙_}
-use mathlib.Core.Bool.{true, false, not, _&&_}
+use mathlib.Core.Bool.{Bool, true, false, not, _&&_}
 use mathlib.Core.List.{List}
-use Prim.Native.Nat.{ℕ, _≤_, _<_}
+use Prim.Native.Nat.{ℕ, _/_, _≤_, _<_}
 use native.Mathlib.Omega.{arith}
 use lib.Dec.{T, leb, ltb, leb→le, le→leb, ltb→lt, lt→ltb, T-not}
 use lib.ListN.{length}
 use borrow.Author.Tests.{le-leb, lt-leb, lt-ltb}
-use Rattle.lists.specs.Basics.{require, distinct}
+use Rattle.lists.specs.Basics.{if_then_else_, require, distinct}
 use Rattle.lists.specs.Choice.{on-yes, on-no, choose, tested}
 use Rattle.lists.specs.Tests.{T-true, and-left, and-right, and-both}
 use Rattle.protocol.specs.declared.Answer.the-variants.{Quiet}
-use Rattle.protocol.specs.Names.{IDENTIFIER-COUNT, IDENTIFIER-TWICE, NO-FOUNDER, NOT-WELL-FORMED, RECORD-SHORT}
+use Rattle.protocol.specs.Names.{IDENTIFIER-COUNT, IDENTIFIER-TWICE, NO-FOUNDER, NOT-WELL-FORMED, PLACES-SHORT, RECORD-SHORT, ROUTE-LONG}
 use Rattle.protocol.specs.Record.{mostNodes, recordSize}
 use Rattle.protocol.specs.Fresh.{fresh}
 use Rattle.protocol.specs.Step.{accepted}
 use Rattle.protocol.specs.WellFormed.{wellFormed}
 use Rattle.protocol.specs.Calls.{Called, long, onRecord, turnedDown, written, freshByCall}
+use Rattle.protocol.specs.Batch.{placeSize, mostQuestions, fitting, onBatch}
 
 pub long-yes : (w : List ℕ) → recordSize ≤ length w → long w ≡ true
 unfolding long
@@ -80,3 +81,21 @@ module _ (w ids : List ℕ) (founder : ℕ) where
       ∙ on-yes _ _ _ (T-true _ (and-both (leb 1 (length ids)) (leb (length ids) mostNodes) (le→leb _ _ (a .some)) (le→leb _ _ (a .few))))
       ∙ on-yes _ _ _ (T-true _ (a .differ))
       ∙ on-yes _ _ _ (lt-ltb founder (length ids) (a .below))
+
+-- What holds of two things that one route's questions decide: it holds where a question was answered no, and where there is a place for each number.
+pub batch-both : {A B : Type 0} (P : A → B → Type 0) (w numbers out : List ℕ) (no-a : ℕ → A) (no-b : ℕ → B) (a : A) (b : B)
+    → ((k : ℕ) → P (no-a k) (no-b k)) → (length numbers ≤ length out / placeSize → P a b) → P (onBatch w numbers out no-a a) (onBatch w numbers out no-b b)
+unfolding onBatch onRecord fitting require if_then_else_
+batch-both {A} {B} P w numbers out no-a no-b a b refuses asks =
+    go (long w) (wellFormed w) (leb (length numbers) mostQuestions) (leb (length numbers) (length out / placeSize)) (λ t. asks (leb→le _ _ t))
+  where
+    four : {C : Type 0} → (ℕ → C) → C → Bool → Bool → Bool → Bool → C
+    four no-result rest p q u v =
+        require p (no-result RECORD-SHORT) (require q (no-result NOT-WELL-FORMED) (require u (no-result ROUTE-LONG) (require v (no-result PLACES-SHORT) rest)))
+
+    go : (p q u v : Bool) → (T v → P a b) → P (four no-a a p q u v) (four no-b b p q u v)
+    go true true true true f = f tt
+    go true true true false f = refuses PLACES-SHORT
+    go true true false v f = refuses ROUTE-LONG
+    go true false u v f = refuses NOT-WELL-FORMED
+    go false q u v f = refuses RECORD-SHORT
