@@ -15,7 +15,7 @@ use std::time::Instant;
 use crate::cases::Case;
 use crate::contestants::{Call, Contestant, CONTESTANTS, COUNT, IDLE, PLAIN};
 use crate::moving::Moving;
-use crate::turns::{in_passes, median, Rounds, Time};
+use crate::turns::{self, measured, Time};
 
 /// Copies of a record, each called once in a timed section.
 const COPIES: usize = 3;
@@ -38,17 +38,22 @@ struct Room {
     made: usize,
 }
 
-impl Room {
-    fn new(size: usize) -> Room {
+impl turns::Room<Case> for Room {
+    fn new(case: &Case) -> Room {
         Room {
-            memory: Moving::new(COPIES * size),
+            memory: Moving::new(COPIES * case.record.len()),
             out: [0; OUT],
             made: 0,
         }
     }
 
-    /// Nanoseconds for one call on each of the restored copies.
-    fn section(&mut self, contestant: &Contestant, case: &Case) -> f64 {
+    fn move_on(&mut self, round: usize) {
+        self.memory.move_on(round);
+    }
+
+    /// One call on each of the restored copies.
+    fn section(&mut self, who: Option<usize>, case: &Case) -> f64 {
+        let contestant = who.map_or(&IDLE, |who| &CONTESTANTS[who]);
         let size = case.record.len();
         let copies = &mut self.memory.bytes()[..COPIES * size];
         for copy in copies.chunks_exact_mut(size) {
@@ -63,53 +68,13 @@ impl Room {
         }
         start.elapsed().as_nanos() as f64 / COPIES as f64
     }
-
-    /// One turn: the times of its sections.
-    fn turn(&mut self, contestant: &Contestant, case: &Case) -> [f64; SECTIONS] {
-        self.section(contestant, case);
-        [(); SECTIONS].map(|()| self.section(contestant, case))
-    }
 }
 
 /// Measures all contestants on these cases.
 pub fn measure(cases: impl Iterator<Item = Case>, rounds: usize) -> Vec<Figures> {
-    let mut list: Vec<Measurement> = cases.map(Measurement::new).collect();
-    in_passes(&mut list, rounds, Measurement::pass);
-    list.into_iter().map(Measurement::figures).collect()
-}
-
-/// A case, and what was found so far.
-struct Measurement {
-    case: Case,
-    rounds: Rounds<COUNT>,
-}
-
-impl Measurement {
-    fn new(case: Case) -> Measurement {
-        agree(&case);
-        Measurement {
-            case,
-            rounds: Rounds::new(),
-        }
-    }
-
-    /// So many rounds more.
-    fn pass(&mut self, rounds: usize) {
-        let Measurement { case, rounds: all } = self;
-        let mut room = Room::new(case.record.len());
-        for _ in 0..rounds {
-            room.memory.move_on(all.count());
-            let idle = median(&mut room.turn(&IDLE, case));
-            all.round(|who| room.turn(&CONTESTANTS[who], case).map(|time| time - idle));
-        }
-    }
-
-    fn figures(self) -> Figures {
-        Figures {
-            case: self.case,
-            times: self.rounds.times(),
-        }
-    }
+    let list = measured::<Room, _, COUNT, SECTIONS>(cases.inspect(agree), rounds);
+    let figures = |(case, times)| Figures { case, times };
+    list.into_iter().map(figures).collect()
 }
 
 /// Nothing is measured that does not do the same: return, output and record

@@ -9,7 +9,7 @@ use std::hint::black_box;
 use std::time::Instant;
 
 use crate::moving::{Moving, ALIGNED};
-use crate::turns::{in_passes, median, Rounds, Time};
+use crate::turns::{self, measured, Time};
 
 mod cases;
 mod contestants;
@@ -33,9 +33,10 @@ pub struct Figures {
 
 /// Measures all contestants on all cases.
 pub fn measure(rounds: usize) -> Vec<Figures> {
-    let mut list: Vec<Measurement> = cases::all().into_iter().map(Measurement::new).collect();
-    in_passes(&mut list, rounds, Measurement::pass);
-    list.into_iter().map(Measurement::figures).collect()
+    let cases = cases::all().into_iter().inspect(agree);
+    let list = measured::<Room, _, COUNT, SECTIONS>(cases, rounds);
+    let figures = |(case, times)| Figures { case, times };
+    list.into_iter().map(figures).collect()
 }
 
 /// Memory that all contestants work on.
@@ -45,7 +46,7 @@ struct Room {
     made: usize,
 }
 
-impl Room {
+impl turns::Room<Case> for Room {
     fn new(case: &Case) -> Room {
         let size = case.record.len().next_multiple_of(ALIGNED) + PLACE * QUESTIONS;
         Room {
@@ -54,8 +55,13 @@ impl Room {
         }
     }
 
-    /// Nanoseconds for one route on the restored copy.
-    fn section(&mut self, contestant: &Contestant, case: &Case) -> f64 {
+    fn move_on(&mut self, round: usize) {
+        self.memory.move_on(round);
+    }
+
+    /// One route on the restored copy.
+    fn section(&mut self, who: Option<usize>, case: &Case) -> f64 {
+        let contestant = who.map_or(&IDLE, |who| &CONTESTANTS[who]);
         let behind = case.record.len().next_multiple_of(ALIGNED);
         let (record, outcomes) = self.memory.bytes().split_at_mut(behind);
         let mut lent = Lent {
@@ -69,46 +75,6 @@ impl Room {
         let start = Instant::now();
         black_box(contestant.call(hub, black_box(&mut lent)));
         start.elapsed().as_nanos() as f64
-    }
-
-    /// One turn: the times of its sections.
-    fn turn(&mut self, contestant: &Contestant, case: &Case) -> [f64; SECTIONS] {
-        self.section(contestant, case);
-        [(); SECTIONS].map(|()| self.section(contestant, case))
-    }
-}
-
-/// A case, and what was found so far.
-struct Measurement {
-    case: Case,
-    rounds: Rounds<COUNT>,
-}
-
-impl Measurement {
-    fn new(case: Case) -> Measurement {
-        agree(&case);
-        Measurement {
-            case,
-            rounds: Rounds::new(),
-        }
-    }
-
-    /// So many rounds more.
-    fn pass(&mut self, rounds: usize) {
-        let Measurement { case, rounds: all } = self;
-        let mut room = Room::new(case);
-        for _ in 0..rounds {
-            room.memory.move_on(all.count());
-            let idle = median(&mut room.turn(&IDLE, case));
-            all.round(|who| room.turn(&CONTESTANTS[who], case).map(|time| time - idle));
-        }
-    }
-
-    fn figures(self) -> Figures {
-        Figures {
-            case: self.case,
-            times: self.rounds.times(),
-        }
     }
 }
 

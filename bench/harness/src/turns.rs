@@ -70,6 +70,51 @@ impl<const COUNT: usize> Rounds<COUNT> {
     }
 }
 
+/// Memory that all contestants of a case work on.
+pub trait Room<Case> {
+    fn new(case: &Case) -> Self;
+
+    /// It lies elsewhere in each round.
+    fn move_on(&mut self, round: usize);
+
+    /// Nanoseconds of one timed section of a contestant, or of a call that
+    /// does nothing.
+    fn section(&mut self, who: Option<usize>, case: &Case) -> f64;
+}
+
+/// One turn: the times of its sections; one more before them is not counted.
+fn turn<Case, const SECTIONS: usize>(
+    room: &mut impl Room<Case>,
+    who: Option<usize>,
+    case: &Case,
+) -> [f64; SECTIONS] {
+    room.section(who, case);
+    [(); SECTIONS].map(|()| room.section(who, case))
+}
+
+/// The times of all contestants on these cases. What a call that does nothing
+/// takes is subtracted.
+pub fn measured<R: Room<Case>, Case, const COUNT: usize, const SECTIONS: usize>(
+    cases: impl IntoIterator<Item = Case>,
+    rounds: usize,
+) -> Vec<(Case, [Time; COUNT])> {
+    let begun = |case| (case, Rounds::new());
+    let mut list: Vec<(Case, Rounds<COUNT>)> = cases.into_iter().map(begun).collect();
+    in_passes(&mut list, rounds, |(case, all), rounds| {
+        let mut room = R::new(case);
+        for _ in 0..rounds {
+            room.move_on(all.count());
+            let idle = median(&mut turn::<Case, SECTIONS>(&mut room, None, case));
+            all.round(|who| {
+                turn::<Case, SECTIONS>(&mut room, Some(who), case).map(|time| time - idle)
+            });
+        }
+    });
+    list.into_iter()
+        .map(|(case, all)| (case, all.times()))
+        .collect()
+}
+
 /// So many rounds of all cases: a pass makes some of them for one case.
 pub fn in_passes<Case>(cases: &mut [Case], rounds: usize, pass: impl Fn(&mut Case, usize)) {
     for _ in 0..PASSES {
