@@ -32,7 +32,8 @@ calledBytes bytes (route hub numbers out) = batchBytes bytes hub numbers out
 abbrev pub ask : ℕ → ℕ → Call
 ask hub v = record { operation = 0; x = hub; y = v }
 
--- The steps that a call makes on the words: none where a step's output has fewer than 20 bytes, or where a route is refused.
+-- The steps that a call makes on the words: none where a step's output has fewer than 20 bytes, or where a route is refused. (That their outcomes
+-- are those in the places of the route is `asked-history`, custody/specs/Routes.antt.)
 abbrev pub stepOf : List ℕ → CCall → List Event
 stepOf bytes (step c out) = require (leb 20 (length out)) [] (record { call = c; outcome = called present (wordsOf bytes) c .outcome } ∷ [])
 stepOf bytes (route hub numbers out) =

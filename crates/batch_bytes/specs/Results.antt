@@ -1,6 +1,6 @@
 -- What the call gives on bytes, question by question. Assumes nothing.
 use mathlib.Core.Path.{_≡_, refl, ap, sym, _∙_}
-use mathlib.Core.Bool.{false}
+use mathlib.Core.Bool.{true, false}
 use mathlib.Core.List.{List, [], _∷_, _++_}
 use Prim.Native.Nat.{ℕ, _+_, _*_, _/_, _<_, _≤_}
 use native.Mathlib.Omega.{arith}
@@ -68,9 +68,12 @@ module _ (b : List ℕ) (hub : ℕ) (numbers out : List ℕ) where
     bytes-2 e =
         ap given (batch-2 (wordsOf b) (wordsOf numbers) (wordsOf out) (unasked (wordsOf b) (wordsOf out)) rest (omega (arith, words-length b)) (both-formed ∙ e))
 
-    module _ (v : Valid a) where
+    module _ (f : wellFormed a ≡ true) where
+      pub loaded-valid : Valid a
+      loaded-valid = valid a (omega (arith, size)) f
+
       all-valid : Valid (wordsOf b)
-      all-valid = valid (wordsOf b) (omega (arith, words-length b)) (both-formed ∙ v .formed)
+      all-valid = valid (wordsOf b) (omega (arith, words-length b)) (both-formed ∙ f)
 
       pub bytes-25 : mostQuestions < length numbers / 4 → batchBytes b hub numbers out ≡ none ROUTE-LONG
       unfolding batchBytes batchCall batchCarried refusal bytesAfter
@@ -115,7 +118,7 @@ module _ (b : List ℕ) (hub : ℕ) (numbers out : List ℕ) where
               (omega (arith, words-length numbers, words-length out))
               ∙ ap (λ z. batchWritten z (wordsOf out) (askEach (wordsOf b) hub z)) (words-all numbers)
               ∙ ap (λ z. batchWritten ns (wordsOf out) (askEach z hub ns)) (words-split b recordSize l)
-              ∙ ap (batchWritten ns (wordsOf out)) (same-each a t v size hub ns)
+              ∙ ap (batchWritten ns (wordsOf out)) (same-each a t loaded-valid size hub ns)
 
           pub bytes-rest : All Byte b → All Byte out → (o₀ z o : List ℕ) → batchWritten ns o₀ done ≡ record { outcome = Answered Quiet; slice = z; output = o }
               → batchBytes b hub numbers out ≡ record { code = 0; bytes = over b z; output = over out (take p o) }
@@ -123,7 +126,7 @@ module _ (b : List ℕ) (hub : ℕ) (numbers out : List ℕ) where
           bytes-rest hb ho o₀ z o e =
               ap given on-words
               ∙ ap (λ x. record { code = 0; bytes = x; output = over out (flat placeWords (done .outcomes) ++ drop p (wordsOf out)) })
-              (back b (done .slice) recordSize hb (each-valid a v hub ns .length ∙ size))
+              (back b (done .slice) recordSize hb (each-valid a loaded-valid hub ns .length ∙ size))
               ∙ ap (λ x. record { code = 0; bytes = over b (done .slice); output = over out (flat placeWords (done .outcomes) ++ x) }) behind
               ∙ ap (λ x. record { code = 0; bytes = over b (done .slice); output = x }) (back out (flat placeWords (done .outcomes)) p ho in-places)
               ∙ ap (λ x. record { code = 0; bytes = over b x; output = over out (flat placeWords (done .outcomes)) }) (ap (λ (c : BatchCalled). c .slice) e)

@@ -9,24 +9,19 @@ use lib.ListN.{length, take, drop, getD}
 use lib.Seq.{take-suc, take-length, getD-at, getD-append-add}
 use borrow.Author.Tests.{ne-eqb}
 use Rattle.lists.specs.Basics.{if_then_else_, flat, All}
-use Rattle.lists.specs.Choice.{tested}
 use Rattle.lists.specs.Members.{all-mem, mem-at}
 use Rattle.lists.specs.Blocks.{flat-split, length-front}
 use Rattle.protocol.specs.declared.Answer.{Answer}
 use Rattle.protocol.specs.declared.Answer.the-variants.{Quiet, Found, Entered, Gone, JoinTurnedAway, LeaveTurnedAway, Joined, Left}
 use Rattle.protocol.specs.declared.Outcome.{Outcome}
 use Rattle.protocol.specs.declared.Outcome.the-variants.{Refused, Answered}
-use Rattle.protocol.specs.declared.Route.{Route}
-use Rattle.protocol.specs.declared.Route.the-variants.{Own, To}
 use Rattle.protocol.specs.declared.Tally.{Tally}
 use Rattle.protocol.specs.Names.{REFUSAL}
-use Rattle.protocol.specs.Record.{row, identifier, read}
-use Rattle.protocol.specs.Routing.{onward}
-use Rattle.protocol.specs.Step.{Result, refused, accepted, asking, ask, step}
 use Rattle.protocol.specs.Answers.{answerWords, kindOf, countOf, raisedAt, counted}
-use Rattle.protocol.specs.Calls.{Called, onRecord, written, stepCall}
+use Rattle.protocol.specs.Calls.{stepCall}
 use Rattle.protocol.specs.Batch.{askEach, placeSize, placeWords, BatchCalled, unasked, batchWritten, batchCall, batchOutcomes, countedAll}
 use Rattle.layout.specs.Questions.{batch-both}
+use Rattle.layout.specs.Asks.{ask-cases}
 use Rattle.batches.specs.Each.{length-asked, place-size}
 
 -- How many places a call with n numbers has written.
@@ -114,31 +109,10 @@ module _ (t : Tally) (outcomes : List Outcome) (told : All Told outcomes) (rest 
   places-counted = up-to (length outcomes) (omega arith) ∙ ap (countedAll t) (take-length outcomes)
 
 -- A question's refusal has a number above 0.
-ask-told : (w : List ℕ) (hub v : ℕ) → Told (stepCall w 0 hub v .outcome)
-unfolding stepCall onRecord written step ask asking Told if_then_else_
-ask-told w hub v =
-    tested Good _ _ _ (omega arith) (λ _. tested Good _ _ _ (omega arith) (λ _. result (ask (read w) hub v)
-    (tested Fair _ _ _ (omega arith) (λ _. tested Fair _ _ _ (omega arith) (λ _. tested Fair _ _ _ (omega arith) (λ _. routed (onward (identifier (read w) (row (read w) hub .pred)) (row (read w) hub) v)))))))
-  where
-    Good : Called → Type 0
-    Good c = Told (c .outcome)
-
-    Fair : Result → Type 0
-    Fair (refused k) = 0 < k
-    Fair (accepted a s) = Unit {0}
-
-    routed : (z : Route) → Fair (asking (read w) hub v z)
-    routed Own = tt
-    routed (To z) = tested Fair _ _ _ (omega arith) (λ _. tt)
-
-    result : (r : Result) → Fair r → Good (written w r)
-    result (refused k) l = l
-    result (accepted a s) l = tt
-
 each-told : (w : List ℕ) (hub : ℕ) (numbers : List ℕ) → All Told (askEach w hub numbers .outcomes)
-unfolding askEach
+unfolding askEach Told
 each-told w hub [] = tt
-each-told w hub (v ∷ numbers) = (ask-told w hub v, each-told (stepCall w 0 hub v .slice) hub numbers)
+each-told w hub (v ∷ numbers) = (ask-cases Told w hub v (λ k l. l) (λ ticket. tt) tt, each-told (stepCall w 0 hub v .slice) hub numbers)
 
 each-counted : (t : Tally) (w : List ℕ) (hub : ℕ) (numbers rest : List ℕ)
     → countedPlaces t (flat placeWords (askEach w hub numbers .outcomes) ++ rest) (length numbers) ≡ countedAll t (askEach w hub numbers .outcomes)

@@ -6,17 +6,12 @@ use Prim.Native.Nat.{ℕ}
 use lib.Dec.{T}
 use Rattle.lists.specs.Basics.{if_then_else_, require, All}
 use Rattle.lists.specs.Choice.{tested, granted}
-use Rattle.protocol.specs.declared.Route.{Route as Way}
-use Rattle.protocol.specs.declared.Route.the-variants.{Own, To}
 use Rattle.protocol.specs.declared.Outcome.{Outcome}
-use Rattle.protocol.specs.Record.{State, row, identifier, read}
 use Rattle.protocol.specs.WellFormed.{wellFormed}
-use Rattle.protocol.specs.Routing.{onward}
-use Rattle.protocol.specs.Step as meaning
-use Rattle.protocol.specs.Step.{Result}
-use Rattle.protocol.specs.Calls.{Called, long, onRecord, written, stepCall}
+use Rattle.protocol.specs.Calls.{long, onRecord, stepCall}
 use Rattle.protocol.specs.Membership.{afterOutcome}
 use Rattle.protocol.specs.Batch.{askEach, fitting, onBatch, BatchCalled, batchWritten, batchCall, batchOutcomes}
+use Rattle.layout.specs.Asks.{ask-cases}
 use Rattle.atomicity.specs.Demand3.{Call, Word, ThreeWords, present, history, recordAfter, membersAfter}
 use Rattle.atomicity.specs.Demand3C.{ask}
 use Rattle.atomicity.specs.TheoremC.{asked-record, asks-words}
@@ -71,23 +66,8 @@ module _ (w : List ℕ) (r : Route) (long-enough : T (long w)) (well-formed : T 
 -- An ask is refused, quiet or found: no ledger changes.
 module _ (members : List ℕ) where
   ask-stays : (w : List ℕ) (hub v : ℕ) → afterOutcome members (stepCall w 0 hub v .outcome) ≡ members
-  unfolding stepCall onRecord written meaning.step meaning.ask meaning.asking if_then_else_ afterOutcome
-  ask-stays w hub v =
-      tested Stays _ _ _ refl (λ _. tested Stays _ _ _ refl
-      (λ _. tested On _ _ _ refl (λ _. tested On _ _ _ refl (λ _. tested On _ _ _ refl (λ _. asked (onward (identifier s (row s hub .pred)) (row s hub) v))))))
-    where
-      s : State
-      s = read w
-
-      Stays : Called → Type 0
-      Stays z = afterOutcome members (z .outcome) ≡ members
-
-      On : Result → Type 0
-      On x = afterOutcome members (written w x .outcome) ≡ members
-
-      asked : (to : Way) → On (meaning.asking s hub v to)
-      asked Own = refl
-      asked (To z) = tested On _ _ _ refl (λ _. refl)
+  unfolding afterOutcome
+  ask-stays w hub v = ask-cases (λ o. afterOutcome members o ≡ members) w hub v (λ k l. refl) (λ ticket. refl) refl
 
   each-stays : (w : List ℕ) (hub : ℕ) (numbers : List ℕ) → membersAfter members (history present w (map (ask hub) numbers)) ≡ members
   unfolding membersAfter history

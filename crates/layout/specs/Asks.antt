@@ -15,15 +15,18 @@ use Rattle.lists.specs.Tests.{and-left, and-right, T-true}
 use Rattle.protocol.specs.declared.Row.{Row}
 use Rattle.protocol.specs.declared.Message.{Message}
 use Rattle.protocol.specs.declared.Answer.{Answer}
+use Rattle.protocol.specs.declared.Answer.the-variants.{Quiet, Found}
+use Rattle.protocol.specs.declared.Outcome.{Outcome}
+use Rattle.protocol.specs.declared.Outcome.the-variants.{Refused, Answered}
 use Rattle.protocol.specs.declared.Route.{Route}
 use Rattle.protocol.specs.declared.Route.the-variants.{Own, To}
-use Rattle.protocol.specs.Names.{INSIDE, LEAVING}
+use Rattle.protocol.specs.Names.{INSIDE, LEAVING, MESSAGES-FULL, NOT-IN-RING, NOT-WELL-FORMED, NO-HUB, RECORD-SHORT, TICKETS-USED-UP}
 use Rattle.protocol.specs.Record.{mostMessages, recordSize, State, count, row, identifier, read, words, sent, ticketed}
 use Rattle.protocol.specs.WellFormed.{namesNode}
 use Rattle.protocol.specs.Routing.{inRing, onward}
 use Rattle.protocol.specs.Step as step
 use Rattle.protocol.specs.Step.{Result, refused, accepted, room, asking}
-use Rattle.protocol.specs.Calls.{Called, turnedDown, written, stepCall}
+use Rattle.protocol.specs.Calls.{Called, onRecord, turnedDown, written, stepCall}
 use Rattle.layout.specs.Words.{length-words}
 use Rattle.layout.specs.Form.{MessageForm, Form, row-at, well-formed-words, long-words, Valid, valid, valid-form}
 use Rattle.layout.specs.Questions.{record-rest}
@@ -144,3 +147,22 @@ ask-again w ok hub v =
           valid = valid (words s ++ t) (long-words s t f) (T-true _ (well-formed-words s t f));
           length = length-append (words s) t ∙ omega (arith, length-words s t (f .few) (f .short), length-drop recordSize w, ok .long);
         }
+
+-- What holds of a question's outcome, whatever the record is: it is refused by a number above 0, or found at its hub, or quiet.
+pub ask-cases : (P : Outcome → Type 0) (w : List ℕ) (hub v : ℕ) → ((k : ℕ) → 0 < k → P (Refused k)) → ((ticket : ℕ) → P (Answered (Found hub v ticket 0))) → P (Answered Quiet)
+    → P (stepCall w 0 hub v .outcome)
+unfolding stepCall onRecord written step.step step.ask asking if_then_else_
+ask-cases P w hub v refuses found quiet =
+    tested Called-P _ _ _ (refuses RECORD-SHORT (omega arith)) (λ _. tested Called-P _ _ _ (refuses NOT-WELL-FORMED (omega arith))
+    (λ _. tested Result-P _ _ _ (refuses NO-HUB (omega arith)) (λ _. tested Result-P _ _ _ (refuses NOT-IN-RING (omega arith)) (λ _. tested Result-P _ _ _ (refuses TICKETS-USED-UP (omega arith))
+    (λ _. routed (onward (identifier (read w) (row (read w) hub .pred)) (row (read w) hub) v))))))
+  where
+    Called-P : Called → Type 0
+    Called-P c = P (c .outcome)
+
+    Result-P : Result → Type 0
+    Result-P r = P (written w r .outcome)
+
+    routed : (z : Route) → Result-P (asking (read w) hub v z)
+    routed Own = found (read w .asked)
+    routed (To z) = tested Result-P _ _ _ (refuses MESSAGES-FULL (omega arith)) (λ _. quiet)

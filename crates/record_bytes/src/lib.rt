@@ -21,7 +21,7 @@ pub fn step(words: &mut [u8], operation: u32, x: u32, y: u32, out: &mut [u8]) ->
         return refusals::OUTPUT_SHORT;
     }
     if words.len() < RECORD_BYTES {
-        return 1;
+        return refusals::RECORD_SHORT;
     }
     let mut w = loaded(&words[..]);
     let r = steps::step(&mut w, operation, x, y);
@@ -36,7 +36,7 @@ pub fn owner(words: &[u8], number: u32, out: &mut [u8]) -> u32
         return refusals::OUTPUT_SHORT;
     }
     if words.len() < RECORD_BYTES {
-        return 1;
+        return refusals::RECORD_SHORT;
     }
     let w = loaded(words);
     let r = queries::owner(&w, number);

@@ -1,5 +1,6 @@
 -- `ask`: the questions of the call in order, then the questions on the words that were loaded. Assumes nothing.
 use mathlib.Core.Path.{_≡_, sym, ap, subst, _∙_}
+use mathlib.Core.Bool.{true}
 use Prim.Native.Nat.{_*_, _/_}
 use native.Mathlib.Omega.{arith}
 use lib.ListN.{length, replicate}
@@ -11,9 +12,9 @@ use Rattle.lists.specs.Blocks.{length-table}
 use Rattle.protocol.specs.Record.{recordSize}
 use Rattle.protocol.specs.WellFormed.{wellFormed}
 use Rattle.protocol.specs.Bytes.{Byte}
-use Rattle.layout.specs.Form.{Valid, valid}
+use Rattle.layout.specs.Form.{Valid}
 use Rattle.word_bytes.specs.Carry.{wordAt, firstWords}
-use Rattle.batch_bytes.specs.Results.{bytes-1, bytes-2, bytes-25, bytes-26, bytes-rest}
+use Rattle.batch_bytes.specs.Results.{loaded-valid, bytes-1, bytes-2, bytes-25, bytes-26, bytes-rest}
 use borrow.Author.Needs.{needs}
 use Rattle.batch_bytes.proofs.ask.Statement.{statement}
 use Rattle.batch_bytes.proofs.ask.Tie as tie
@@ -49,8 +50,8 @@ returns-3 : tie.Need-returns-3
 returns-3 c =
     let a = c .before .before .before .before .before .before .before .before .before .before .args in
     let b = a .words .now in
-    let v : Valid (firstWords b recordSize) = valid (firstWords b recordSize) (omega (arith, length-table recordSize (wordAt b))) (ap wellFormed (sym (c .before .before .before .before .loaded .ensures)) ∙ sym (c .before .before .well-formed .ensures) ∙ not-false _ (c .before .if2 .left)) in
-    bytes-25 b (a .node) (a .numbers .now) (a .outcomes .now) (omega arith) v (omega arith)
+    let f : wellFormed (firstWords b recordSize) ≡ true = ap wellFormed (sym (c .before .before .before .before .loaded .ensures)) ∙ sym (c .before .before .well-formed .ensures) ∙ not-false _ (c .before .if2 .left) in
+    bytes-25 b (a .node) (a .numbers .now) (a .outcomes .now) (omega arith) f (omega arith)
 
 same-length-3 : tie.Need-same-length-3
 same-length-3 c = search needs
@@ -59,8 +60,8 @@ returns-4 : tie.Need-returns-4
 returns-4 c =
     let a = c .before .before .before .before .before .before .before .before .before .before .before .args in
     let b = a .words .now in
-    let v : Valid (firstWords b recordSize) = valid (firstWords b recordSize) (omega (arith, length-table recordSize (wordAt b))) (ap wellFormed (sym (c .before .before .before .before .before .loaded .ensures)) ∙ sym (c .before .before .before .well-formed .ensures) ∙ not-false _ (c .before .before .if2 .left)) in
-    bytes-26 b (a .node) (a .numbers .now) (a .outcomes .now) (omega arith) v (omega arith) (omega arith)
+    let f : wellFormed (firstWords b recordSize) ≡ true = ap wellFormed (sym (c .before .before .before .before .before .loaded .ensures)) ∙ sym (c .before .before .before .well-formed .ensures) ∙ not-false _ (c .before .before .if2 .left) in
+    bytes-26 b (a .node) (a .numbers .now) (a .outcomes .now) (omega arith) f (omega arith) (omega arith)
 
 slice-aggregate-load : tie.Need-slice-aggregate-load
 slice-aggregate-load c = search needs
@@ -88,7 +89,7 @@ ask-each-requires c κs =
     let b = a .words .now in
     let i = a .numbers .now in
     let n = ap length (c .before .before .before .before .load .ensures) ∙ length-table (length i / 4) (wordAt i) in (
-      subst Valid (sym (c .before .before .before .before .before .before .before .before .before .before .before .loaded .ensures)) (valid (firstWords b recordSize) (omega (arith, length-table recordSize (wordAt b))) (ap wellFormed (sym (c .before .before .before .before .before .before .before .before .before .before .before .loaded .ensures)) ∙ sym (c .before .before .before .before .before .before .before .before .before .well-formed .ensures) ∙ not-false _ (c .before .before .before .before .before .before .before .before .if2 .left))),
+      subst Valid (sym (c .before .before .before .before .before .before .before .before .before .before .before .loaded .ensures)) (loaded-valid b (a .node) i (a .outcomes .now) (omega arith) (ap wellFormed (sym (c .before .before .before .before .before .before .before .before .before .before .before .loaded .ensures)) ∙ sym (c .before .before .before .before .before .before .before .before .before .well-formed .ensures) ∙ not-false _ (c .before .before .before .before .before .before .before .before .if2 .left))),
       omega (arith, n),
     )
 
@@ -130,8 +131,8 @@ returns-5 c =
     let count : length (firstWords i n) ≡ n = length-table n (wordAt i) in
     let bytes : All Byte b = all-at Byte b 0 (λ k h. omega (arith, c .before .before .before .before .before .before .before .before .before .before .before .before .before .before .before .before .before .before .before .before .before .before .before .before .before .before .before .before .before .slice-known .given k)) in
     let room : All Byte out = all-at Byte out 0 (λ k h. omega (arith, c .before .before .before .before .before .before .before .before .before .before .before .before .before .before .before .before .before .before .before .before .before .before .before .before .before .before .before .slice-known2 .given k)) in
-    let v : Valid (firstWords b recordSize) = valid (firstWords b recordSize) (omega (arith, length-table recordSize (wordAt b))) (ap wellFormed (sym (c .before .before .before .before .before .before .before .before .before .before .before .before .before .before .before .before .before .before .before .before .before .before .before .before .loaded .ensures)) ∙ sym (c .before .before .before .before .before .before .before .before .before .before .before .before .before .before .before .before .before .before .before .before .before .before .well-formed .ensures) ∙ not-false _ (c .before .before .before .before .before .before .before .before .before .before .before .before .before .before .before .before .before .before .before .before .before .if2 .left)) in
-    bytes-rest b (a .node) i out (omega arith) v (omega arith) (omega arith) bytes room (replicate 384 0) (r .last .0) (r .last .1 .1 .1 .0)
+    let f : wellFormed (firstWords b recordSize) ≡ true = ap wellFormed (sym (c .before .before .before .before .before .before .before .before .before .before .before .before .before .before .before .before .before .before .before .before .before .before .before .before .loaded .ensures)) ∙ sym (c .before .before .before .before .before .before .before .before .before .before .before .before .before .before .before .before .before .before .before .before .before .before .well-formed .ensures) ∙ not-false _ (c .before .before .before .before .before .before .before .before .before .before .before .before .before .before .before .before .before .before .before .before .before .if2 .left) in
+    bytes-rest b (a .node) i out (omega arith) f (omega arith) (omega arith) bytes room (replicate 384 0) (r .last .0) (r .last .1 .1 .1 .0)
     (rw (c .before .before .before .before .before .before .before .before .before .before .before .before .before .before .before .before .before .before .before .before .before .before .before .before .loaded .ensures, c .before .before .before .before .before .before .before .before .before .before .before .before .before .before .before .before .before .load .ensures) at (r .ensures))
     ∙ simp (count, c .before .before .before .before .before .before .before .save .ensures, c .before .before .save2 .ensures)
 
