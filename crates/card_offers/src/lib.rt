@@ -1,4 +1,5 @@
 // A card offered to a ring (document 02, 2026-04).
+#![tactic(auto)]
 mod offers;
 
 pub use offers::offer;

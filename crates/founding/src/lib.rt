@@ -1,4 +1,5 @@
 // The fresh calls: a ring is founded in a lent slice of words, from a list of identifiers.
+#![tactic(auto)]
 mod founder;
 mod writing;
 

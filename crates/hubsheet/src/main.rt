@@ -1,5 +1,6 @@
 // Reads the office sheet from standard input, and prints the founding frame that `ringrun` reads, or EE and the number of the refusal. The sheet may
 // arrive in any pieces and have any length; what is done with a piece is proved in hubs.rt, and what is printed in frame.rt.
+#![tactic(auto)]
 mod frame;
 mod hubs;
 mod places;

@@ -1,4 +1,6 @@
 // The values of the ring protocol. Their meaning is in specs/, in the order of document 01.
+#![tactic(auto)]
+
 pub mod answer_kinds;
 pub mod form;
 pub mod kinds;

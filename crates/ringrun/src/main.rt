@@ -1,5 +1,6 @@
 // Reads frames from standard input, one a line, and prints one line each (document 01, '`ringrun`'). What is done with the bytes of a read is
 // proved in `stream`; here they are only carried in and out.
+#![tactic(auto)]
 ghost use Rattle.std.specs.Prelude.{◌≡◌, ◌*◌, ◌≤◌, length, take, replicate};
 ghost use Rattle.protocol.specs.Record.{record_size};
 ghost use Rattle.ringrun.specs.Turns.{turned};
