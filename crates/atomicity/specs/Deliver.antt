@@ -116,16 +116,16 @@ module _ (id : ℕ → ℕ) (small : (h : ℕ) → id h < round) (c : ℕ) (inj 
   row_of_lem : (m : Msg) → With m → (v : Row) → Rewritten S (hubs (set rows (to m) v) (mark members)) (to m) (core_of v) v.succ
   row_of_lem m H v = rewritten rows (mark members) (mark members) (to m) v (hub_of_lem m H)
 
-  join_retry_fine : (x a : ℕ) → Clear (join_retry x a) s → With (join_retry x a) → Ok a (kinds.joinRetry (row_of rows a) (erase (join_retry x a)))
-  unfolding kinds.joinRetry
+  join_retry_fine : (x a : ℕ) → Clear (join_retry x a) s → With (join_retry x a) → Ok a (kinds.join_retry (row_of rows a) (erase (join_retry x a)))
+  unfolding kinds.join_retry
   join_retry_fine x a cl H =
       let L = loc_of (join_retry x a) H in
       passes (Ok a) _ _ _ (→eqb _ 1 L.0)
       (reply (join_retry x a) H _ refl (JoinTurnedAway a) tt
       (joins.join_retry_lem round id small c S _ s t x a cl H.inv (row_of_lem (join_retry x a) H _) (λ h. refl)) (λ k. omega arith) (omega arith))
 
-  join_point_fine : (a b p : ℕ) → Clear (join_point a b p) s → With (join_point a b p) → Ok a (kinds.joinPoint (row_of rows a) (erase (join_point a b p)))
-  unfolding kinds.joinPoint
+  join_point_fine : (a b p : ℕ) → Clear (join_point a b p) s → With (join_point a b p) → Ok a (kinds.join_point (row_of rows a) (erase (join_point a b p)))
+  unfolding kinds.join_point
   join_point_fine a b p cl H =
       let L = loc_of (join_point a b p) H in
       passes (Ok a) _ _ _ (→eqb _ 1 L.0)
@@ -133,17 +133,17 @@ module _ (id : ℕ → ℕ) (small : (h : ℕ) → id h < round) (c : ℕ) (inj 
       (joins.join_point_lem round id small c S _ s t a b p cl H.inv (row_of_lem (join_point a b p) H _) (λ h. refl)) (λ k. omega arith) (omega arith)
       (nums (new_succ a b p) (num_of (join_point a b p) H).dst (H.inv.below p (omega (arith, L.3.low))) (λ e. omega arith)))
 
-  new_succ_fine : (a b p : ℕ) → Clear (new_succ a b p) s → With (new_succ a b p) → Ok p (kinds.newSucc (row_of rows p) (erase (new_succ a b p)))
-  unfolding kinds.newSucc
+  new_succ_fine : (a b p : ℕ) → Clear (new_succ a b p) s → With (new_succ a b p) → Ok p (kinds.new_succ (row_of rows p) (erase (new_succ a b p)))
+  unfolding kinds.new_succ
   new_succ_fine a b p cl H =
       let L = loc_of (new_succ a b p) H in
       passes (Ok p) _ _ _ (is_responsible _ L.3.low L.3.high)
       (send (new_succ a b p) H _ refl Quiet (new_succ_ack a b p) _ (ap (λ z. note 6 p z a) L.3.at) tt
-      (joins.new-succ round id small c S _ s t a b p cl H.inv (row_of_lem (new_succ a b p) H _) (λ h. refl)) (λ k. omega arith) (omega arith)
+      (joins.new_succ_lem round id small c S _ s t a b p cl H.inv (row_of_lem (new_succ a b p) H _) (λ h. refl)) (λ k. omega arith) (omega arith)
       (nums (new_succ_ack a b p) (num_of (new_succ a b p) H).dst (H.inv.below b (omega (arith, L.2.state))) (λ e. omega arith)))
 
-  new_succ_ack_fine : (a b p : ℕ) → Clear (new_succ_ack a b p) s → With (new_succ_ack a b p) → Ok b (kinds.newSuccAck (row_of rows b) (erase (new_succ_ack a b p)))
-  unfolding kinds.newSuccAck
+  new_succ_ack_fine : (a b p : ℕ) → Clear (new_succ_ack a b p) s → With (new_succ_ack a b p) → Ok b (kinds.new_succ_ack (row_of rows b) (erase (new_succ_ack a b p)))
+  unfolding kinds.new_succ_ack
   new_succ_ack_fine a b p cl H =
       let L = loc_of (new_succ_ack a b p) H in
       passes (Ok b) _ _ _ (→eqb _ 1 L.2.flag)
@@ -151,16 +151,16 @@ module _ (id : ℕ → ℕ) (small : (h : ℕ) → id h < round) (c : ℕ) (inj 
       (joins.new_succ_ack_lem round id small c S _ s t a b p cl H.inv (row_of_lem (new_succ_ack a b p) H _) (λ h. refl)) (λ k. omega arith) (omega arith)
       (nums (join_done a b) (num_of (new_succ_ack a b p) H).dst (H.inv.below a (omega (arith, L.0.state))) (λ e. omega arith)))
 
-  join_done_fine : (a b : ℕ) → Clear (join_done a b) s → With (join_done a b) → Ok a (kinds.joinDone (row_of rows a) (erase (join_done a b)))
-  unfolding kinds.joinDone
+  join_done_fine : (a b : ℕ) → Clear (join_done a b) s → With (join_done a b) → Ok a (kinds.join_done (row_of rows a) (erase (join_done a b)))
+  unfolding kinds.join_done
   join_done_fine a b cl H =
       let L = loc_of (join_done a b) H in
       passes (Ok a) _ _ _ (three_eqb _ 2 _ 1 _ 0 L.state (lock_of (join_done a b) a cl H (inl refl)) L.flag)
       (reply (join_done a b) H _ refl (Joined a) tt
       (joins.join_done_lem round id small c S _ s t a b cl H.inv (row_of_lem (join_done a b) H _) (λ h. refl)) (λ k. omega arith) (omega arith))
 
-  leave_req_fine : (q b : ℕ) → Clear (leave_req q b) s → With (leave_req q b) → Ok b (kinds.leaveReq (row_of rows b) (erase (leave_req q b)))
-  unfolding kinds.leaveReq
+  leave_req_fine : (q b : ℕ) → Clear (leave_req q b) s → With (leave_req q b) → Ok b (kinds.leave_req (row_of rows b) (erase (leave_req q b)))
+  unfolding kinds.leave_req
   leave_req_fine q b cl H =
       let L = loc_of (leave_req q b) H in
       let N = num_of (leave_req q b) H in
@@ -170,19 +170,19 @@ module _ (id : ℕ → ℕ) (small : (h : ℕ) → id h < round) (c : ℕ) (inj 
       (unchanged b (leaves.leave_req_busy round id small c S S s t q b cl H.inv)) (λ k. omega arith) (omega arith)
       (nums (leave_retry b q) N.dst N.src (λ e. omega arith)))
       (λ z. send (leave_req q b) H _ refl Quiet (leave_grant q b) _ refl tt
-      (leaves.leave-req round id small c S _ s t q b cl H.inv (unlocked H.inv b z) (row_of_lem (leave_req q b) H _) (λ h. refl)) (λ k. omega arith) (omega arith)
+      (leaves.leave_req_lem round id small c S _ s t q b cl H.inv (unlocked H.inv b z) (row_of_lem (leave_req q b) H _) (λ h. refl)) (λ k. omega arith) (omega arith)
       (nums (leave_grant q b) N.dst N.src (λ e. omega arith))))
 
-  leave_retry_fine : (x q : ℕ) → Clear (leave_retry x q) s → With (leave_retry x q) → Ok q (kinds.leaveRetry (row_of rows q) (erase (leave_retry x q)))
-  unfolding kinds.leaveRetry
+  leave_retry_fine : (x q : ℕ) → Clear (leave_retry x q) s → With (leave_retry x q) → Ok q (kinds.leave_retry (row_of rows q) (erase (leave_retry x q)))
+  unfolding kinds.leave_retry
   leave_retry_fine x q cl H =
       let L = loc_of (leave_retry x q) H in
       passes (Ok q) _ _ _ (→eqb _ 3 L.0.state)
       (reply (leave_retry x q) H _ refl (LeaveTurnedAway q) tt
       (leaves.leave_retry_lem round id small c S _ s t x q cl H.inv (row_of_lem (leave_retry x q) H _) (λ h. refl)) (λ k. omega arith) (omega arith))
 
-  leave_grant_fine : (q b : ℕ) → Clear (leave_grant q b) s → With (leave_grant q b) → Ok q (kinds.leaveGrant (row_of rows q) (erase (leave_grant q b)))
-  unfolding kinds.leaveGrant
+  leave_grant_fine : (q b : ℕ) → Clear (leave_grant q b) s → With (leave_grant q b) → Ok q (kinds.leave_grant (row_of rows q) (erase (leave_grant q b)))
+  unfolding kinds.leave_grant
   leave_grant_fine q b cl H =
       let L = loc_of (leave_grant q b) H in
       let N = num_of (leave_grant q b) H in
@@ -191,8 +191,8 @@ module _ (id : ℕ → ℕ) (small : (h : ℕ) → id h < round) (c : ℕ) (inj 
       (leaves.leave_grant_lem round id small c S _ s t q b cl H.inv (row_of_lem (leave_grant q b) H _) (λ h. refl)) (λ k. omega arith) (omega arith)
       (nums (leave_point q b (row_of rows q).pred) N.dst N.src (λ e. omega arith)))
 
-  leave_point_fine : (q b p : ℕ) → Clear (leave_point q b p) s → With (leave_point q b p) → Ok b (kinds.leavePoint (row_of rows b) (erase (leave_point q b p)))
-  unfolding kinds.leavePoint
+  leave_point_fine : (q b p : ℕ) → Clear (leave_point q b p) s → With (leave_point q b p) → Ok b (kinds.leave_point (row_of rows b) (erase (leave_point q b p)))
+  unfolding kinds.leave_point
   leave_point_fine q b p cl H =
       let L = loc_of (leave_point q b p) H in
       let N = num_of (leave_point q b p) H in
@@ -202,8 +202,8 @@ module _ (id : ℕ → ℕ) (small : (h : ℕ) → id h < round) (c : ℕ) (inj 
       (λ k. omega arith) (omega arith)
       (nums (update_succ q b p) N.dst (H.inv.below p (omega (arith, L.2.low))) (λ e. omega arith)))
 
-  update_succ_fine : (q b p : ℕ) → Clear (update_succ q b p) s → With (update_succ q b p) → Ok p (kinds.updateSucc (row_of rows p) (erase (update_succ q b p)))
-  unfolding kinds.updateSucc
+  update_succ_fine : (q b p : ℕ) → Clear (update_succ q b p) s → With (update_succ q b p) → Ok p (kinds.update_succ (row_of rows p) (erase (update_succ q b p)))
+  unfolding kinds.update_succ
   update_succ_fine q b p cl H =
       let L = loc_of (update_succ q b p) H in
       passes (Ok p) _ _ _ (is_responsible _ L.2.low L.2.high)
@@ -211,8 +211,8 @@ module _ (id : ℕ → ℕ) (small : (h : ℕ) → id h < round) (c : ℕ) (inj 
       (leaves.update_succ_lem round id small c S _ s t q b p cl H.inv (row_of_lem (update_succ q b p) H _) (λ h. refl)) (λ k. omega arith) (omega arith)
       (nums (stop_forward q b p) (num_of (update_succ q b p) H).dst (H.inv.below q (omega (arith, L.0.state))) (λ e. omega arith)))
 
-  stop_forward_fine : (q b p : ℕ) → Clear (stop_forward q b p) s → With (stop_forward q b p) → Ok q (kinds.stopForward (row_of rows q) (erase (stop_forward q b p)))
-  unfolding kinds.stopForward
+  stop_forward_fine : (q b p : ℕ) → Clear (stop_forward q b p) s → With (stop_forward q b p) → Ok q (kinds.stop_forward (row_of rows q) (erase (stop_forward q b p)))
+  unfolding kinds.stop_forward
   stop_forward_fine q b p cl H =
       let L = loc_of (stop_forward q b p) H in
       passes (Ok q) _ _ _ (→eqb _ 4 L.0.state)
@@ -220,8 +220,8 @@ module _ (id : ℕ → ℕ) (small : (h : ℕ) → id h < round) (c : ℕ) (inj 
       (leaves.stop_forward_lem round id small c S _ s t q b p cl H.inv (row_of_lem (stop_forward q b p) H _) (λ h. refl)) (λ k. omega arith) (omega arith)
       (nums (leave_done q b) (num_of (stop_forward q b p) H).dst (H.inv.below b (omega (arith, L.4.state))) (λ e. omega arith)))
 
-  leave_done_fine : (q b : ℕ) → Clear (leave_done q b) s → With (leave_done q b) → Ok b (kinds.leaveDone (row_of rows b) (erase (leave_done q b)))
-  unfolding kinds.leaveDone
+  leave_done_fine : (q b : ℕ) → Clear (leave_done q b) s → With (leave_done q b) → Ok b (kinds.leave_done (row_of rows b) (erase (leave_done q b)))
+  unfolding kinds.leave_done
   leave_done_fine q b cl H =
       let L = loc_of (leave_done q b) H in
       passes (Ok b) _ _ _ (three_eqb _ 2 _ 1 _ 0 L.state (lock_of (leave_done q b) b cl H (inl refl)) L.flag)

@@ -4,7 +4,8 @@ use Rattle.std.specs.Prelude.{◌≡◌, ◌⊎◌, ◌≢◌, Bool, true, false
 use Rattle.std.proofs.Common.{sym, ◌∙◌, ap, inl, inr, arith, eqb→eq, length-set, get_or-set_same, get_or-set_other}
 use Rattle.std.proofs.lemmas.List.{map-append}
 use Rattle.std.proofs.Math.Decide.{dec_lt}
-use Rattle.std.proofs.Math.Dec.{nat_eq, T_not}
+use Rattle.std.proofs.Common.{nat_eq}
+use Rattle.std.proofs.Math.Dec.{T_not}
 use Rattle.std.proofs.Math.Seq.{set_out}
 use Rattle.clockwise.specs.Laws.{In, within_in}
 use Rattle.lists.specs.Basics.{Mem, All, times}

@@ -7,7 +7,8 @@ use Rattle.std.proofs.Math.Logic.{inl, inr}
 use Prim.Native.Nat.{ℕ, zero, suc, ◌+◌, ◌≤◌, ◌<◌}
 use Rattle.std.proofs.Math.Decide.{ℕ_discrete}
 use native.Mathlib.Omega.{arith}
-use Rattle.std.proofs.Math.Dec.{T, nat_eq, ltb→lt, eqb→eq, nltb→le}
+use Rattle.std.proofs.Common.{nat_eq}
+use Rattle.std.proofs.Math.Dec.{T, ltb→lt, eqb→eq, nltb→le}
 use Rattle.std.proofs.lemmas.List.{length-map}
 use Rattle.std.proofs.Math.ListN.{get_or-map}
 use Rattle.std.proofs.Math.Seq.{map-set_same}
@@ -84,7 +85,7 @@ module _ (n q : ℕ) (h : Row) (r : RowForm n h) (m : Message) (ok : MessageForm
   down ne = elim r.flag [ inl k ↦ k | inr k ↦ absurd (ne k.1) ]
 
   -- succ alone is changed, at a hub in the ring
-  turn : (s : ℕ) → s < n → INSIDE ≤ h.state → RowForm n (kinds.withSucc h s)
+  turn : (s : ℕ) → s < n → INSIDE ≤ h.state → RowForm n (kinds.with_succ h s)
   turn s l k = record {
     state = r.state;
     lock = r.lock;
@@ -96,7 +97,7 @@ module _ (n q : ℕ) (h : Row) (r : RowForm n h) (m : Message) (ok : MessageForm
   }
 
   -- the lock is freed in state 2
-  loose : h.state ≡ INSIDE → h.flag ≡ 0 → RowForm n (kinds.withLock h 0)
+  loose : h.state ≡ INSIDE → h.flag ≡ 0 → RowForm n (kinds.with_lock h 0)
   loose e f = record {
     state = r.state;
     lock = omega arith;
@@ -131,7 +132,7 @@ module _ (n q : ℕ) (h : Row) (r : RowForm n h) (m : Message) (ok : MessageForm
       if_else (in_ring h) _
       (λ t. let b = r.linked (ring_states h t).0 in lookup_routed_sound e (route p h m.from m.a) (route_leads n p h m.from m.a b.0 b.1))
 
-  retried_sound : m.a < n → Well (kinds.joinRetried h m)
+  retried_sound : m.a < n → Well (kinds.join_retried h m)
   unfolding names_node
   retried_sound la = (r, refl, note_form JOINRETRY m.to m.a 0 (omega arith) (omega arith) ok.to la (λ t. absurd t) (λ _. refl))
 
@@ -164,8 +165,8 @@ module _ (n q : ℕ) (h : Row) (r : RowForm n h) (m : Message) (ok : MessageForm
       (λ t. let k : INSIDE ≤ h.state = nltb→le h.state INSIDE t in let b = r.linked k in
       join_routed_sound la k (route p h m.from g.identifier) (route_leads n p h m.from g.identifier b.0 b.1)))
 
-  join_retry_sound : Well (kinds.joinRetry h m)
-  unfolding kinds.joinRetry
+  join_retry_sound : Well (kinds.join_retry h m)
+  unfolding kinds.join_retry
   join_retry_sound = if_else (nat_eq h.state JOINING) _ λ t.
       let e : h.state ≡ JOINING = eqb→eq _ JOINING t in (
         record {
@@ -180,8 +181,8 @@ module _ (n q : ℕ) (h : Row) (r : RowForm n h) (m : Message) (ok : MessageForm
         refl,
       )
 
-  join_point_sound : m.a < n → Well (kinds.joinPoint h m)
-  unfolding kinds.joinPoint names_node
+  join_point_sound : m.a < n → Well (kinds.join_point h m)
+  unfolding kinds.join_point names_node
   join_point_sound la = if_else (nat_eq h.state JOINING) _ λ t.
       let e : h.state ≡ JOINING = eqb→eq _ JOINING t in (
         record {
@@ -197,14 +198,14 @@ module _ (n q : ℕ) (h : Row) (r : RowForm n h) (m : Message) (ok : MessageForm
         note_form NEWSUCC m.to m.a 0 (omega arith) (omega arith) ok.to la (λ t. absurd t) (λ _. refl),
       )
 
-  new_succ_sound : Well (kinds.newSucc h m)
-  unfolding kinds.newSucc names_node
+  new_succ_sound : Well (kinds.new_succ h m)
+  unfolding kinds.new_succ names_node
   new_succ_sound = if_else (responsible h) _ λ t.
       let w = responsible_states h t in
       (turn m.from ok.from w.0, refl, note_form NEWSUCCACK m.to h.succ m.from (omega arith) (omega arith) ok.to (r.linked w.0).1 (λ _. ok.from) (λ f. absurd (f tt)))
 
-  new_succ_ack_sound : m.a < n → Well (kinds.newSuccAck h m)
-  unfolding kinds.newSuccAck names_node
+  new_succ_ack_sound : m.a < n → Well (kinds.new_succ_ack h m)
+  unfolding kinds.new_succ_ack names_node
   new_succ_ack_sound la = if_else (nat_eq h.flag 1) _ λ t.
       let e : h.flag ≡ 1 = eqb→eq _ 1 t in (
         record {
@@ -221,14 +222,14 @@ module _ (n q : ℕ) (h : Row) (r : RowForm n h) (m : Message) (ok : MessageForm
       )
 
   -- state 2, lock 1, flag 0: the lock is freed
-  freed : (a : Answer) → Well (if nat_eq h.state INSIDE && nat_eq h.lock 1 && nat_eq h.flag 0 then Reply (kinds.withLock h 0) a else Refuse NOT_EXPECTED)
+  freed : (a : Answer) → Well (if nat_eq h.state INSIDE && nat_eq h.lock 1 && nat_eq h.flag 0 then Reply (kinds.with_lock h 0) a else Refuse NOT_EXPECTED)
   freed a = if_else (nat_eq h.state INSIDE && nat_eq h.lock 1 && nat_eq h.flag 0) _ λ t.
       let st : h.state ≡ INSIDE = eqb→eq _ INSIDE (and_left (nat_eq h.state INSIDE) (nat_eq h.lock 1) (and_left (nat_eq h.state INSIDE && nat_eq h.lock 1) (nat_eq h.flag 0) t)) in
       let fl : h.flag ≡ 0 = eqb→eq _ 0 (and_right (nat_eq h.state INSIDE && nat_eq h.lock 1) (nat_eq h.flag 0) t) in
       (loose st fl, refl)
 
-  leave_req_sound : Well (kinds.leaveReq h m)
-  unfolding kinds.leaveReq names_node
+  leave_req_sound : Well (kinds.leave_req h m)
+  unfolding kinds.leave_req names_node
   leave_req_sound = if_else (in_ring h) _ λ t.
       let w = ring_states h t in
       choose Well (nat_eq h.lock 1) _ _
@@ -247,8 +248,8 @@ module _ (n q : ℕ) (h : Row) (r : RowForm n h) (m : Message) (ok : MessageForm
         note_form LEAVEGRANT m.to m.from 0 (omega arith) (omega arith) ok.to ok.from (λ t. absurd t) (λ _. refl),
       ))
 
-  leave_retry_sound : Well (kinds.leaveRetry h m)
-  unfolding kinds.leaveRetry
+  leave_retry_sound : Well (kinds.leave_retry h m)
+  unfolding kinds.leave_retry
   leave_retry_sound = if_else (nat_eq h.state WANTING_TO_LEAVE) _ λ t.
       let e : h.state ≡ WANTING_TO_LEAVE = eqb→eq _ WANTING_TO_LEAVE t in (
         record {
@@ -263,8 +264,8 @@ module _ (n q : ℕ) (h : Row) (r : RowForm n h) (m : Message) (ok : MessageForm
         refl,
       )
 
-  leave_grant_sound : Well (kinds.leaveGrant h m)
-  unfolding kinds.leaveGrant names_node
+  leave_grant_sound : Well (kinds.leave_grant h m)
+  unfolding kinds.leave_grant names_node
   leave_grant_sound = if_else (nat_eq h.state WANTING_TO_LEAVE) _ λ t.
       let e : h.state ≡ WANTING_TO_LEAVE = eqb→eq _ WANTING_TO_LEAVE t in
       let b = r.linked (omega arith) in (
@@ -281,8 +282,8 @@ module _ (n q : ℕ) (h : Row) (r : RowForm n h) (m : Message) (ok : MessageForm
         note_form LEAVEPOINT m.to m.from h.pred (omega arith) (omega arith) ok.to ok.from (λ _. b.0) (λ f. absurd (f tt)),
       )
 
-  leave_point_sound : m.a < n → Well (kinds.leavePoint h m)
-  unfolding kinds.leavePoint names_node
+  leave_point_sound : m.a < n → Well (kinds.leave_point h m)
+  unfolding kinds.leave_point names_node
   leave_point_sound la = if_else (nat_eq h.state INSIDE && nat_eq h.lock 1) _ λ t.
       let e : h.state ≡ INSIDE = eqb→eq _ INSIDE (and_left (nat_eq h.state INSIDE) (nat_eq h.lock 1) t) in (
         record {
@@ -298,14 +299,14 @@ module _ (n q : ℕ) (h : Row) (r : RowForm n h) (m : Message) (ok : MessageForm
         note_form UPDATESUCC m.to m.a 0 (omega arith) (omega arith) ok.to la (λ t. absurd t) (λ _. refl),
       )
 
-  update_succ_sound : Well (kinds.updateSucc h m)
-  unfolding kinds.updateSucc names_node
+  update_succ_sound : Well (kinds.update_succ h m)
+  unfolding kinds.update_succ names_node
   update_succ_sound = if_else (responsible h) _ λ t.
       let w = responsible_states h t in
       (turn m.from ok.from w.0, refl, note_form STOPFORWARD m.to h.succ 0 (omega arith) (omega arith) ok.to (r.linked w.0).1 (λ t. absurd t) (λ _. refl))
 
-  stop_forward_sound : Well (kinds.stopForward h m)
-  unfolding kinds.stopForward names_node
+  stop_forward_sound : Well (kinds.stop_forward h m)
+  unfolding kinds.stop_forward names_node
   stop_forward_sound = if_else (nat_eq h.state LEAVING) _ λ t.
       let e : h.state ≡ LEAVING = eqb→eq _ LEAVING t in (
         record {
@@ -327,7 +328,7 @@ module _ (n q : ℕ) (h : Row) (r : RowForm n h) (m : Message) (ok : MessageForm
 
   -- the match over the kinds
   pub handle_sound : (p : ℕ) (g : Row) → Well (handle p h g m)
-  unfolding handle kinds.joinDone kinds.leaveDone names_node
+  unfolding handle kinds.join_done kinds.leave_done names_node
   handle_sound p g =
       by 1 _ _ (λ e. lookup_sound p e) (by 2 _ _ (λ e. join_sound p g (names_hub 2 tt (omega arith) e)) (by 3 _ _ (λ e. join_retry_sound)
       (by 4 _ _ (λ e. join_point_sound (names_hub 4 tt (omega arith) e)) (by 5 _ _ (λ e. new_succ_sound)

@@ -136,7 +136,7 @@ unfolding within dist
 intervals_computed = (refl, (refl, (refl, (refl, (refl, (refl, (refl, (refl, (refl, tt)))))))))
 
 refusals_computed : All Computes refusals
-unfolding outcomes_of said left smallest fresh step.step step.ask step.join step.leave step.onLink step.deliver require step.room if◌then◌else◌ first in_ring distinct every
+unfolding outcomes_of said left smallest fresh step.step step.ask step.join step.leave step.on_link step.deliver require step.room if◌then◌else◌ first in_ring distinct every
 refusals_computed = (
   (tt, tt, tt, refl),
   (
@@ -152,7 +152,7 @@ refusals_computed = (
 )
 
 eight_outcomes_lem : Rung eight_ids 0 eight_calls eight_outcomes
-unfolding outcomes_of said left fresh step.step step.ask step.asking step.join step.onLink step.delivered step.deliver require step.conclude step.room if◌then◌else◌ first within dist in_ring responsible covers onward route kinds.grown kinds.lookupRouted kinds.lookup kinds.joinRouted kinds.join kinds.joinPoint kinds.newSucc kinds.handle distinct every
+unfolding outcomes_of said left fresh step.step step.ask step.asking step.join step.on_link step.delivered step.deliver require step.conclude step.room if◌then◌else◌ first within dist in_ring responsible covers onward route kinds.grown kinds.lookup_routed kinds.lookup kinds.join_routed kinds.join kinds.join_point kinds.new_succ kinds.handle distinct every
 eight_outcomes_lem = (tt, tt, tt, refl)
 
 -- hub 0 has the smaller identifier there

@@ -5,7 +5,8 @@ use Rattle.std.proofs.Common.{◌∙◌, inl, inr, true≢false, length-append}
 use mathlib.Core.List.{List, [], ◌∷◌, ◌++◌, map, append-nil, append_assoc}
 use Rattle.std.proofs.Math.Decide.{dec_lt}
 use native.Mathlib.Omega.{arith}
-use Rattle.std.proofs.Math.Dec.{T, nat_eq}
+use Rattle.std.proofs.Common.{nat_eq}
+use Rattle.std.proofs.Math.Dec.{T}
 use Rattle.std.proofs.Math.ListN.{length, get_or-eq_default}
 use Rattle.clockwise.specs.Laws.{In, within_in}
 use Rattle.lists.specs.Basics.{if◌then◌else◌, Mem, All, times}

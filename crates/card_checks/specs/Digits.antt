@@ -6,7 +6,8 @@ use Prim.Native.Nat.{ℕ, zero, suc, ◌+◌, ◌-◌, ◌*◌, ◌/◌, ◌%◌
 use Rattle.std.proofs.Math.Decide.{dec_lt, ℕ_discrete}
 use Rattle.std.proofs.Math.Numerals.{unary_clauses}
 use native.Mathlib.Omega.{arith}
-use Rattle.std.proofs.Math.Dec.{nat_eq, eqb→eq, T_not}
+use Rattle.std.proofs.Common.{nat_eq}
+use Rattle.std.proofs.Math.Dec.{eqb→eq, T_not}
 use Rattle.lists.specs.Basics.{if◌then◌else◌, distinct, table}
 use Rattle.lists.specs.Choice.{choose, passes}
 use Rattle.lists.specs.Members.{filled}

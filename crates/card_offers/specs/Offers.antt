@@ -2,7 +2,7 @@
 use Rattle.std.specs.Prelude.{◌≡◌, List, [], ◌∷◌, ◌++◌, ℕ, ◌+◌, ◌≤◌, ◌<◌, nat_eq, length, get_or}
 use Rattle.std.proofs.Math.Path.{sym, ap}
 use Rattle.std.proofs.Common.{◌∙◌, arith, lt-ltb, le-ltb, eq-eqb, ne_eqb}
-use Rattle.std.proofs.Math.Dec.{nat_lt}
+use Rattle.std.proofs.Common.{nat_lt}
 use Rattle.std.proofs.Math.ListN.{set, drop}
 use Rattle.lists.specs.Basics.{if◌then◌else◌, require, first}
 use Rattle.lists.specs.Blocks.{get_or_table}

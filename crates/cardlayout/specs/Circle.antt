@@ -7,7 +7,7 @@ use Rattle.std.proofs.Math.Bool.{true, false}
 use Prim.Native.Nat.{ℕ, zero, suc, ◌+◌, ◌*◌, ◌≤◌, ◌<◌}
 use Rattle.std.proofs.Math.Decide.{dec_le, ℕ_discrete}
 use native.Mathlib.Omega.{arith}
-use Rattle.std.proofs.Math.Dec.{nat_le, nat_eq}
+use Rattle.std.proofs.Common.{nat_le, nat_eq}
 use Rattle.std.proofs.Math.ListN.{get_or-eq_default}
 use Rattle.clockwise.specs.Clockwise.{dist}
 use Rattle.clockwise.specs.Laws.{dist_law}

@@ -1,7 +1,8 @@
 -- The hub of an entered or gone answer is one of the record's. For every well-formed state and command. Assumes nothing.
 use Rattle.std.specs.Prelude.{◌≡◌, Bool, ◌&&◌, ℕ, ◌<◌, ◌≤◌, length}
 use Rattle.std.proofs.Common.{sym, subst, arith, eqb→eq, ltb→lt}
-use Rattle.std.proofs.Math.Dec.{T, nat_lt, nat_eq}
+use Rattle.std.proofs.Common.{nat_lt, nat_eq}
+use Rattle.std.proofs.Math.Dec.{T}
 use Rattle.lists.specs.Basics.{if◌then◌else◌}
 use Rattle.lists.specs.Choice.{choose, tested}
 use Rattle.lists.specs.Members.{mem_at}
@@ -68,7 +69,7 @@ module _ (n : ℕ) where
     names e = M.node (subst (λ z. T (names_node z)) (sym e) tt) (omega (arith, e))
 
     pub turns : (p : ℕ) (g : Row) → Mild (handle p h g m)
-    unfolding handle kinds.lookup kinds.join kinds.joinRetry kinds.joinPoint kinds.newSucc kinds.newSuccAck kinds.joinDone kinds.leaveReq kinds.leaveRetry kinds.leaveGrant kinds.leavePoint kinds.updateSucc kinds.stopForward kinds.leaveDone
+    unfolding handle kinds.lookup kinds.join kinds.join_retry kinds.join_point kinds.new_succ kinds.new_succ_ack kinds.join_done kinds.leave_req kinds.leave_retry kinds.leave_grant kinds.leave_point kinds.update_succ kinds.stop_forward kinds.leave_done
     turns p g =
         by 1 _ _ (λ _. if_else (in_ring h) _ (lookup_routed_lem _))
         (by 2 _ _ (λ e. if_else (nat_eq g.state 1) _ (choose Mild (nat_lt h.state 2) _ _ (λ _. tt) (λ _. join_routed_lem (names e) _)))

@@ -3,7 +3,7 @@ use Rattle.std.specs.Prelude.{◌≡◌, refl, ℕ, suc, ◌+◌, ◌<◌}
 use Rattle.std.proofs.Math.Path.{sym, ap}
 use Rattle.std.proofs.Common.{◌∙◌, inl, inr, add-one, arith}
 use mathlib.Core.List.{List, [], ◌∷◌, ◌++◌, map}
-use Rattle.std.proofs.Math.Dec.{nat_le}
+use Rattle.std.proofs.Common.{nat_le}
 use lib.ListN.{length, get_or, set, take, drop, length-append, length-map}
 use lib.Seq.{length-take-le, set_at, drop-cons, take-suc, append_snoc, take-length, drop-length, set-get_or}
 use Rattle.clockwise.specs.Clockwise.{dist}

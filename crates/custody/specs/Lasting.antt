@@ -3,7 +3,8 @@
 use Rattle.std.specs.Prelude.{◌≡◌, Bool, true, ◌&&◌, List, ℕ, ◌+◌, ◌<◌, T, length, get_or}
 use Rattle.std.proofs.Math.Path.{ap}
 use Rattle.std.proofs.Common.{◌∙◌, arith, ltb→lt, get_or-set_same}
-use Rattle.std.proofs.Math.Dec.{nat_lt, nat_eq, eqb→eq}
+use Rattle.std.proofs.Common.{nat_lt, nat_eq}
+use Rattle.std.proofs.Math.Dec.{eqb→eq}
 use Rattle.lists.specs.Basics.{if◌then◌else◌}
 use Rattle.lists.specs.Choice.{choose, tested}
 use Rattle.lists.specs.Tests.{and_left, and_right}
@@ -59,13 +60,13 @@ module _ (h : Row) (m : Message) where
   join_routed_lem Own = choose Mild (nat_eq h.lock 1) _ _ (λ _ s. absurd s) (λ _ s. absurd s)
   join_routed_lem (To z) = λ s. absurd s
 
-  leave_point_lem : Mild (kinds.leavePoint h m)
-  unfolding kinds.leavePoint
+  leave_point_lem : Mild (kinds.leave_point h m)
+  unfolding kinds.leave_point
   leave_point_lem = if_else (nat_eq h.state INSIDE && nat_eq h.lock 1) _ (λ t _. eqb→eq _ INSIDE (and_left (nat_eq h.state INSIDE) (nat_eq h.lock 1) t))
 
   -- the match over the kinds
   pub turns : (p : ℕ) (g : Row) → Mild (handle p h g m)
-  unfolding handle kinds.lookup kinds.join kinds.joinRetry kinds.joinPoint kinds.newSucc kinds.newSuccAck kinds.joinDone kinds.leaveReq kinds.leaveRetry kinds.leaveGrant kinds.updateSucc kinds.stopForward kinds.leaveDone
+  unfolding handle kinds.lookup kinds.join kinds.join_retry kinds.join_point kinds.new_succ kinds.new_succ_ack kinds.join_done kinds.leave_req kinds.leave_retry kinds.leave_grant kinds.update_succ kinds.stop_forward kinds.leave_done
   turns p g =
       by 1 _ _ (if_else (in_ring h) _ (λ _. lookup_routed_lem _))
       (by 2 _ _ (if_else (nat_eq g.state 1) _ (λ _. choose Mild (nat_lt h.state 2) _ _ (λ _ s. absurd s) (λ _. join_routed_lem _)))

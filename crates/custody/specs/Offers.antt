@@ -2,7 +2,8 @@
 use Rattle.std.specs.Prelude.{◌≡◌, refl, ◌⊎◌, ◌≢◌, Bool, List, [], ◌∷◌, ◌++◌, map, ℕ, zero, suc, ◌≤◌, ◌<◌, nat_eq, length, get_or, set}
 use Rattle.std.proofs.Common.{sym, ◌∙◌, ap, subst, inl, inr, arith, eqb→eq, length-set, length-append}
 use Rattle.std.proofs.lemmas.List.{map-append}
-use Rattle.std.proofs.Math.Dec.{nat_lt, ltb→lt, nltb→le}
+use Rattle.std.proofs.Common.{nat_lt}
+use Rattle.std.proofs.Math.Dec.{ltb→lt, nltb→le}
 use Rattle.std.proofs.Math.Seq.{map-set_same}
 use borrow.Author.Tests.{eqb-false, eqb-true}
 use Rattle.lists.specs.Basics.{if◌then◌else◌, require, Mem, first}

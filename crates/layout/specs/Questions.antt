@@ -1,7 +1,8 @@
 -- Questions 1 and 2 in the words' terms, those of a fresh call, and those of a route. Assumes nothing.
 use Rattle.std.specs.Prelude.{◌≡◌, Bool, true, false, not, ◌&&◌, List, ℕ, ◌/◌, ◌≤◌, ◌<◌, nat_lt}
 use Rattle.std.proofs.Common.{◌∙◌, arith, le→leb, lt→ltb, T_not, le-leb, lt-ltb}
-use Rattle.std.proofs.Math.Dec.{T, nat_le, leb→le, ltb→lt}
+use Rattle.std.proofs.Common.{nat_le}
+use Rattle.std.proofs.Math.Dec.{T, leb→le, ltb→lt}
 use Rattle.std.proofs.Math.ListN.{length}
 use Rattle.std.proofs.lemmas.Bool.{lt-leb}
 use Rattle.lists.specs.Basics.{if◌then◌else◌, require, distinct}

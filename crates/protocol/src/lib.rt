@@ -9,7 +9,7 @@ pub mod states;
 
 // A node of the ring (document 01: a hub) has a number below the node count, and this row of seven
 // words (document 01: hub row).
-#[derive(Drop)]
+#[derive(Clone, Copy)]
 pub struct Row {
     pub identifier: u32,
     pub state: u32,
@@ -21,7 +21,7 @@ pub struct Row {
 }
 
 // A message in flight, in the order of its six words.
-#[derive(Drop)]
+#[derive(Clone, Copy)]
 pub struct Message {
     pub kind: u32,
     pub from: u32,
@@ -32,7 +32,7 @@ pub struct Message {
 }
 
 // A price card (document 02, 2026-04), in the order of its four words.
-#[derive(Drop)]
+#[derive(Clone, Copy)]
 pub struct Card {
     pub machine: u32,
     pub revision: u32,
@@ -41,7 +41,7 @@ pub struct Card {
 }
 
 // What an accepted step answers.
-#[derive(Drop)]
+#[derive(Clone, Copy)]
 pub enum Answer {
     Quiet,
     Found {
@@ -59,14 +59,14 @@ pub enum Answer {
 }
 
 // What a step or a fresh call gives: an answer, or the number of a refusal.
-#[derive(Drop)]
+#[derive(Clone, Copy)]
 pub enum Outcome {
     Refused(u32),
     Answered(Answer),
 }
 
 // Where a key (document 01: machine number) goes from a node: the node owns it, or sends it on.
-#[derive(Drop)]
+#[derive(Clone, Copy)]
 pub enum Route {
     Own,
     To(u32),
@@ -74,7 +74,7 @@ pub enum Route {
 
 // What a command or a delivered message does at one node: a refusal; or the node's new row and an
 // answer; or these and one message sent.
-#[derive(Drop)]
+#[derive(Clone, Copy)]
 pub enum Decision {
     Refuse(u32),
     Reply(Row, Answer),
@@ -82,28 +82,28 @@ pub enum Decision {
 }
 
 // Who founds a ring: the node with the smallest identifier, or the one that the caller names.
-#[derive(Drop)]
+#[derive(Clone, Copy)]
 pub enum Founder {
     Smallest,
     Named(u32),
 }
 
 // What the owner query gives: the node that holds the key, or the number of a refusal.
-#[derive(Drop)]
+#[derive(Clone, Copy)]
 pub enum Ownership {
     Refused(u32),
     HeldBy(u32),
 }
 
 // What a roll call gives: the length of the roll, or the number of a refusal.
-#[derive(Drop)]
+#[derive(Clone, Copy)]
 pub enum Roll {
     Refused(u32),
     Length(u32),
 }
 
 // How many steps gave each kind of answer, and how many were refused.
-#[derive(Drop)]
+#[derive(Clone, Copy)]
 pub struct Tally {
     pub quiet: u64,
     pub found: u64,
@@ -118,7 +118,7 @@ pub struct Tally {
 
 // What a line of `ringrun` says: a ring founded with so many identifiers, whose digits follow from
 // byte 2 on; or a command; or nothing that reads.
-#[derive(Drop)]
+#[derive(Clone, Copy)]
 pub enum Frame {
     Founding(usize),
     Command { operation: u32, x: u32, y: u32 },
@@ -126,7 +126,7 @@ pub enum Frame {
 }
 
 // What `ringrun` prints for a line: the first `count` bytes, the last of which is LF. What is past them is LF too.
-#[derive(Drop)]
+#[derive(Clone, Copy)]
 pub struct Line {
     pub bytes: [u8; 25],
     pub count: usize,

@@ -4,7 +4,7 @@ use Rattle.std.proofs.Common.{◌∙◌, ltb-true, le-leb}
 use Rattle.std.specs.Prelude.{Bool, true, false, ◌&&◌, ◌||◌, List, [], ◌∷◌, ◌++◌, ℕ, ◌+◌, ◌≤◌, ◌<◌, min, T, nat_lt, length}
 use native.Mathlib.Omega.{arith}
 use Rattle.std.proofs.lemmas.Bool.{lt-leb}
-use Rattle.std.proofs.Math.Dec.{nat_le}
+use Rattle.std.proofs.Common.{nat_le}
 use Rattle.std.proofs.Math.ListN.{length-append}
 use Rattle.lists.specs.Basics.{require, every}
 use Rattle.lists.specs.Choice.{on_yes, on_no}

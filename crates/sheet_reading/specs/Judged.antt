@@ -6,7 +6,7 @@ use Rattle.std.proofs.Math.Bool.{true, false}
 use mathlib.Core.List.{List, [], ◌∷◌, ◌++◌, append_assoc}
 use native.Mathlib.Omega.{arith}
 use borrow.Author.Tests.{ltb-true, ltb-false, eqb-true, eqb-false}
-use Rattle.std.proofs.Math.Dec.{nat_lt, nat_eq}
+use Rattle.std.proofs.Common.{nat_lt, nat_eq}
 use Rattle.std.proofs.Math.ListN.{length}
 use Rattle.lists.specs.Basics.{every}
 use Rattle.lists.specs.Merge.{every_append}
@@ -141,7 +141,7 @@ module _ (t : List ℕ) where
       size = let z = length_between i e t r.from r.within in omega arith;
       ahead = omega arith;
       within = omega arith;
-      leads = λ n c v. plain_name n c v ∙ onward_number t Plain (n ++ between i e t) c v e l (Nexts.plain-comma (get_or t e 0) q) ∙ ap (λ x. onward t Number x c 0 (e + 1)) (append_assoc n (between i e t) (0 ∷ []));
+      leads = λ n c v. plain_name n c v ∙ onward_number t Plain (n ++ between i e t) c v e l (Nexts.plain_comma (get_or t e 0) q) ∙ ap (λ x. onward t Number x c 0 (e + 1)) (append_assoc n (between i e t) (0 ∷ []));
     }
 
     pub name_ends : e ≡ length t → NameIs t Start i NoName
@@ -150,7 +150,7 @@ module _ (t : List ℕ) where
 
     pub name_stops : e < length t → (get_or t e 0 ≡ comma → ⊥) → NameIs t Start i NoName
     unfolding NameIs
-    name_stops l q n c v = plain_name n c v ∙ onward_wrong t Plain (n ++ between i e t) c v e l (Nexts.plain-wrong (get_or t e 0) (r.stopped l) q)
+    name_stops l q n c v = plain_name n c v ∙ onward_wrong t Plain (n ++ between i e t) c v e l (Nexts.plain_wrong (get_or t e 0) (r.stopped l) q)
 
 -- Within a quoted name that begins at i: the bytes up to j are this name, of which so many quotes were doubled.
 pub record Quoting (t : List ℕ) (i j doubled : ℕ) : Type 0 where
@@ -175,10 +175,10 @@ module _ (t : List ℕ) where
   module _ (i j d : ℕ) (q : Quoting t i j d) where
     pub quoting_stops : j < length t → (get_or t j 0 ≡ quote → ⊥) → NameIs t Quoted i NoName
     unfolding NameIs
-    quoting_stops l k n c v = q.leads n c v ∙ onward_wrong t Quoted (n ++ q.name) c v j l (Nexts.quoted-wrong (get_or t j 0) (q.stopped l) k)
+    quoting_stops l k n c v = q.leads n c v ∙ onward_wrong t Quoted (n ++ q.name) c v j l (Nexts.quoted_wrong (get_or t j 0) (q.stopped l) k)
 
     at_quote : j < length t → get_or t j 0 ≡ quote → (n c : List ℕ) (v : ℕ) → onward t Quoted n c v i ≡ onward t Closed (n ++ q.name) c v (j + 1)
-    at_quote l e n c v = q.leads n c v ∙ onward_closed t Quoted (n ++ q.name) c v j l (Nexts.quoted-quote (get_or t j 0) e)
+    at_quote l e n c v = q.leads n c v ∙ onward_closed t Quoted (n ++ q.name) c v j l (Nexts.quoted_quote (get_or t j 0) e)
 
     pub quoting_ends : length t ≤ j + 1 → NameIs t Quoted i NoName
     unfolding NameIs ended_as ending
@@ -200,13 +200,13 @@ module _ (t : List ℕ) where
         size = omega arith;
         ahead = omega arith;
         within = omega arith;
-        leads = λ n c v. at_quote (omega arith) e n c v ∙ onward_number t Closed (n ++ q.name) c v (j + 1) l (Nexts.closed-comma (get_or t (j + 1) 0) k)
+        leads = λ n c v. at_quote (omega arith) e n c v ∙ onward_number t Closed (n ++ q.name) c v (j + 1) l (Nexts.closed_comma (get_or t (j + 1) 0) k)
             ∙ ap (λ x. onward t Number x c 0 (j + 1 + 1)) (append_assoc n q.name (0 ∷ [])) ∙ ap (λ x. onward t Number (n ++ (q.name ++ (0 ∷ []))) c 0 x) (let z : j + 1 + 1 ≡ j + 2 = omega arith in z);
       }
 
       pub quoting_shut : (get_or t (j + 1) 0 ≡ comma → ⊥) → (get_or t (j + 1) 0 ≡ quote → ⊥) → NameIs t Quoted i NoName
       unfolding NameIs
-      quoting_shut k m n c v = at_quote (omega arith) e n c v ∙ onward_wrong t Closed (n ++ q.name) c v (j + 1) l (Nexts.closed-wrong (get_or t (j + 1) 0) m k)
+      quoting_shut k m n c v = at_quote (omega arith) e n c v ∙ onward_wrong t Closed (n ++ q.name) c v (j + 1) l (Nexts.closed_wrong (get_or t (j + 1) 0) m k)
 
       pub quoting_more : (k : ℕ) → get_or t (j + 1) 0 ≡ quote → RunTo quoted_byte t (j + 2) k → Quoting t i k (d + 1)
       quoting_more k m r =
@@ -222,7 +222,7 @@ module _ (t : List ℕ) where
             within = r.within;
             stopped = r.stopped;
             leads = λ n c v. at_quote (omega arith) e n c v
-                ∙ onward_quoted t Closed (n ++ q.name) c v (j + 1) l (Nexts.closed-quote (get_or t (j + 1) 0) m)
+                ∙ onward_quoted t Closed (n ++ q.name) c v (j + 1) l (Nexts.closed_quote (get_or t (j + 1) 0) m)
                 ∙ ap (λ x. onward t Quoted ((n ++ q.name) ++ (x ∷ [])) c v (j + 1 + 1)) m
                 ∙ ap (λ x. onward t Quoted ((n ++ q.name) ++ (quote ∷ [])) c v x) (let y : j + 1 + 1 ≡ j + 2 = omega arith in y)
                 ∙ quoted_over t (j + 2) k r.from r.passed ((n ++ q.name) ++ (quote ∷ [])) c v
@@ -233,10 +233,10 @@ module _ (t : List ℕ) where
   module _ (i : ℕ) (h : i < length t) (e : get_or t i 0 ≡ quote) where
     pub opened_name : (n c : List ℕ) (v : ℕ) → onward t Start n c v i ≡ onward t Quoted n c v (i + 1)
     unfolding ended_as ending
-    opened_name n c v = onward_opened t Start n c v i h (Nexts.start-quote (get_or t i 0) e) ∙ go (nat_lt (i + 1) (length t)) refl
+    opened_name n c v = onward_opened t Start n c v i h (Nexts.start_quote (get_or t i 0) e) ∙ go (nat_lt (i + 1) (length t)) refl
       where
         go : (b : Bool) → nat_lt (i + 1) (length t) ≡ b → onward t Opened n c v (i + 1) ≡ onward t Quoted n c v (i + 1)
-        go true k = onward_as t Opened n c v (i + 1) (ltb-true _ _ k) Quoted (Nexts.opened-quoted (get_or t (i + 1) 0))
+        go true k = onward_as t Opened n c v (i + 1) (ltb-true _ _ k) Quoted (Nexts.opened_quoted (get_or t (i + 1) 0))
         go false k = onward_end t Opened n c v (i + 1) (ltb-false _ _ k) ∙ sym (onward_end t Quoted n c v (i + 1) (ltb-false _ _ k))
 
     pub name_opened : (r : Name) → NameIs t Quoted (i + 1) r → NameIs t Start i r
@@ -270,18 +270,18 @@ module _ (t : List ℕ) where
     }
       where
         go : (n c : List ℕ) (b : Bool) → nat_lt e (length t) ≡ b → onward t Digits n c worthy e ≡ onward t NumberClosed n c worthy e
-        go n c true k = onward_as t Digits n c worthy e (ltb-true _ _ k) NumberClosed (Nexts.digits-end (get_or t e 0) (digits.stopped (ltb-true _ _ k)))
+        go n c true k = onward_as t Digits n c worthy e (ltb-true _ _ k) NumberClosed (Nexts.digits_end (get_or t e 0) (digits.stopped (ltb-true _ _ k)))
         go n c false k = onward_end t Digits n c worthy e (ltb-false _ _ k) ∙ sym (onward_end t NumberClosed n c worthy e (ltb-false _ _ k))
 
     pub number_none : i < length t → (get_or t i 0 ≡ quote → ⊥) → e ≡ i → NumberIs t Number i NoNumber
     unfolding NumberIs
-    number_none h k q n c = onward_wrong t Number n c 0 i h (Nexts.number-wrong (get_or t i 0) (subst (λ x. is_digit (get_or t x 0) ≡ false) q (digits.stopped (omega arith))) k)
+    number_none h k q n c = onward_wrong t Number n c 0 i h (Nexts.number_wrong (get_or t i 0) (subst (λ x. is_digit (get_or t x 0) ≡ false) q (digits.stopped (omega arith))) k)
 
     -- a quoted one, behind its first quote
     within_quotes : i < e → (n c : List ℕ) → onward t NumberOpened n c 0 i ≡ onward t NumberQuoted n c worthy e
     within_quotes h n c =
         let w = digits.within in
-        onward_as t NumberOpened n c 0 i (omega arith) NumberQuoted (Nexts.opened-digits (get_or t i 0) (run_first is_digit t i e digits h)) ∙ number_quoted_on t i e digits.from digits.passed n c 0
+        onward_as t NumberOpened n c 0 i (omega arith) NumberQuoted (Nexts.opened_digits (get_or t i 0) (run_first is_digit t i e digits h)) ∙ number_quoted_on t i e digits.from digits.passed n c 0
 
     pub quoted_number_read : i < e → e < length t → get_or t e 0 ≡ quote → NumberIs t NumberOpened i (NumberAt (e + 1) v)
     unfolding NumberIs
@@ -290,7 +290,7 @@ module _ (t : List ℕ) where
       kept = r.made;
       ahead = omega arith;
       within = omega arith;
-      leads = λ n c. within_quotes h n c ∙ onward_number_closed t NumberQuoted n c worthy e l (Nexts.number-quoted-quote (get_or t e 0) k);
+      leads = λ n c. within_quotes h n c ∙ onward_number_closed t NumberQuoted n c worthy e l (Nexts.number_quoted_quote (get_or t e 0) k);
     }
 
     pub quoted_number_empty : e ≡ i → NumberIs t NumberOpened i NoNumber
@@ -298,7 +298,7 @@ module _ (t : List ℕ) where
     quoted_number_empty q n c = go (nat_lt i (length t)) refl
       where
         go : (b : Bool) → nat_lt i (length t) ≡ b → onward t NumberOpened n c 0 i ≡ nothing
-        go true k = let z = ltb-true _ _ k in onward_wrong t NumberOpened n c 0 i z (Nexts.opened-wrong (get_or t i 0) (subst (λ x. is_digit (get_or t x 0) ≡ false) q (digits.stopped (omega arith))))
+        go true k = let z = ltb-true _ _ k in onward_wrong t NumberOpened n c 0 i z (Nexts.opened_wrong (get_or t i 0) (subst (λ x. is_digit (get_or t x 0) ≡ false) q (digits.stopped (omega arith))))
         go false k = onward_end t NumberOpened n c 0 i (ltb-false _ _ k)
 
     pub quoted_number_ends : i < e → e ≡ length t → NumberIs t NumberOpened i NoNumber
@@ -307,7 +307,7 @@ module _ (t : List ℕ) where
 
     pub quoted_number_stops : i < e → e < length t → (get_or t e 0 ≡ quote → ⊥) → NumberIs t NumberOpened i NoNumber
     unfolding NumberIs
-    quoted_number_stops h l k n c = within_quotes h n c ∙ onward_wrong t NumberQuoted n c worthy e l (Nexts.number-quoted-wrong (get_or t e 0) (digits.stopped l) k)
+    quoted_number_stops h l k n c = within_quotes h n c ∙ onward_wrong t NumberQuoted n c worthy e l (Nexts.number_quoted_wrong (get_or t e 0) (digits.stopped l) k)
 
   pub number_ends : (i : ℕ) → i ≡ length t → NumberIs t Number i NoNumber
   unfolding NumberIs ended_as ending
@@ -315,13 +315,13 @@ module _ (t : List ℕ) where
 
   pub number_opened : (i : ℕ) → i < length t → get_or t i 0 ≡ quote → (r : NumberRead) → NumberIs t NumberOpened (i + 1) r → NumberIs t Number i r
   unfolding NumberIs
-  number_opened i h e NoNumber s = λ n c. onward_number_opened t Number n c 0 i h (Nexts.number-quote (get_or t i 0) e) ∙ s n c
+  number_opened i h e NoNumber s = λ n c. onward_number_opened t Number n c 0 i h (Nexts.number_quote (get_or t i 0) e) ∙ s n c
   number_opened i h e (NumberAt end v) s = let a = s.ahead in record {
     number = s.number;
     kept = s.kept;
     ahead = omega arith;
     within = s.within;
-    leads = λ n c. onward_number_opened t Number n c 0 i h (Nexts.number-quote (get_or t i 0) e) ∙ s.leads n c;
+    leads = λ n c. onward_number_opened t Number n c 0 i h (Nexts.number_quote (get_or t i 0) e) ∙ s.leads n c;
   }
 
   -- the end of a row
@@ -335,11 +335,11 @@ module _ (t : List ℕ) where
 
   pub end_stops : (i : ℕ) → i < length t → (get_or t i 0 ≡ cr → ⊥) → EndIs t i NoEnd
   unfolding EndIs
-  end_stops i h k n c v = onward_wrong t NumberClosed n c v i h (Nexts.number-closed-wrong (get_or t i 0) k)
+  end_stops i h k n c v = onward_wrong t NumberClosed n c v i h (Nexts.number_closed_wrong (get_or t i 0) k)
 
   module _ (i : ℕ) (h : i < length t) (e : get_or t i 0 ≡ cr) where
     at_cr : (n c : List ℕ) (v : ℕ) → onward t NumberClosed n c v i ≡ onward t Return n (c ++ (v ∷ [])) v (i + 1)
-    at_cr n c v = onward_return t NumberClosed n c v i h (Nexts.number-closed-cr (get_or t i 0) e)
+    at_cr n c v = onward_return t NumberClosed n c v i h (Nexts.number_closed_cr (get_or t i 0) e)
 
     pub end_cut : i + 1 ≡ length t → EndIs t i NoEnd
     unfolding EndIs ended_as ending
@@ -347,14 +347,14 @@ module _ (t : List ℕ) where
 
     pub end_bare : i + 1 < length t → (get_or t (i + 1) 0 ≡ lf → ⊥) → EndIs t i NoEnd
     unfolding EndIs
-    end_bare l k n c v = at_cr n c v ∙ onward_wrong t Return n (c ++ (v ∷ [])) v (i + 1) l (Nexts.return-wrong (get_or t (i + 1) 0) k)
+    end_bare l k n c v = at_cr n c v ∙ onward_wrong t Return n (c ++ (v ∷ [])) v (i + 1) l (Nexts.return_wrong (get_or t (i + 1) 0) k)
 
     pub end_row : i + 1 < length t → get_or t (i + 1) 0 ≡ lf → EndIs t i (EndAt (i + 2))
     unfolding EndIs
     end_row l k = record {
       ahead = omega arith;
       within = omega arith;
-      leads = λ n c v. at_cr n c v ∙ onward_start t Return n (c ++ (v ∷ [])) v (i + 1) l (Nexts.return-lf (get_or t (i + 1) 0) k)
+      leads = λ n c v. at_cr n c v ∙ onward_start t Return n (c ++ (v ∷ [])) v (i + 1) l (Nexts.return_lf (get_or t (i + 1) 0) k)
           ∙ ap (λ x. onward t Start n (c ++ (v ∷ [])) v x) (let z : i + 1 + 1 ≡ i + 2 = omega arith in z);
     }
 

@@ -83,11 +83,11 @@ module _ (b : ℕ) where
   opened_wrong e = rw e
 
   pub number_quoted_wrong : is_digit b ≡ false → (b ≡ quote → ⊥) → next NumberQuoted b ≡ Wrong
-  unfolding next Reader.numberQuoted if◌then◌else◌
+  unfolding next Reader.number_quoted if◌then◌else◌
   number_quoted_wrong e k = rw (ne_eqb b quote k, e)
 
   pub number_closed_wrong : (b ≡ cr → ⊥) → next NumberClosed b ≡ Wrong
-  unfolding next Reader.rowEnd if◌then◌else◌
+  unfolding next Reader.row_end if◌then◌else◌
   number_closed_wrong k = rw (ne_eqb b cr k)
 
   pub return_wrong : (b ≡ lf → ⊥) → next Return b ≡ Wrong

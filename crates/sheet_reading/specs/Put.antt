@@ -6,7 +6,7 @@ use Rattle.std.proofs.Math.Bool.{true, false}
 use mathlib.Core.List.{List, [], ◌∷◌, ◌++◌, append_assoc, append-nil}
 use native.Mathlib.Omega.{arith}
 use borrow.Author.Tests.{ltb-true, ltb-false, eqb-true, eqb-false}
-use Rattle.std.proofs.Math.Dec.{nat_lt, nat_eq}
+use Rattle.std.proofs.Common.{nat_lt, nat_eq}
 use Rattle.std.proofs.Math.ListN.{length, set, length-append}
 use Rattle.lists.specs.Basics.{if◌then◌else◌, every}
 use Rattle.lists.specs.Splice.{splice}
@@ -53,11 +53,11 @@ pub record Copies (p : Place) (stop : ℕ) (f : ℕ → Bool) : Type 0 where
 
 pub plain_copies : Copies Plain comma plain_byte
 unfolding effect ending
-plain_copies = record { stays = plain_stays []; letter = refl; within = refl; wrong = Nexts.plain-wrong }
+plain_copies = record { stays = plain_stays []; letter = refl; within = refl; wrong = Nexts.plain_wrong }
 
 pub quoted_copies : Copies Quoted quote quoted_byte
 unfolding effect ending
-quoted_copies = record { stays = quoted_stays []; letter = refl; within = refl; wrong = Nexts.quoted-wrong }
+quoted_copies = record { stays = quoted_stays []; letter = refl; within = refl; wrong = Nexts.quoted_wrong }
 
 -- The two that there are, by the byte that ends the copy.
 unfoldable pub place_for : ℕ → Place
@@ -208,7 +208,7 @@ module _ (t : List ℕ) (i at room : ℕ) where
     unfolding test_for if◌then◌else◌
     plain_leads n m v =
         onward_as t Start n m v i h Plain (Nexts.start_plain (get_or t i 0) k) ∙ plain_over t i j c.from c.passed n m v
-        ∙ onward_number t Plain (n ++ between i j t) m v j c.within (Nexts.plain-comma (get_or t j 0) c.ended) ∙ ap (λ x. onward t Number x m 0 (j + 1)) (append_assoc n (between i j t) (0 ∷ []))
+        ∙ onward_number t Plain (n ++ between i j t) m v j c.within (Nexts.plain_comma (get_or t j 0) c.ended) ∙ ap (λ x. onward t Number x m 0 (j + 1)) (append_assoc n (between i j t) (0 ∷ []))
 
     pub zero_room : at + (j - i) < room
     zero_room =
@@ -251,7 +251,7 @@ module _ (t : List ℕ) (i at room : ℕ) where
 
     module _ (j k : ℕ) (u : List ℕ) (c : Copying t i names₀ at j k u) where
       at_quote : (n m : List ℕ) (v : ℕ) → onward t Quoted n m v i ≡ onward t Closed (n ++ c.name) m v (j + 1)
-      at_quote n m v = c.leads n m v ∙ onward_closed t Quoted (n ++ c.name) m v j c.within (Nexts.quoted-quote (get_or t j 0) c.quoted)
+      at_quote n m v = c.leads n m v ∙ onward_closed t Quoted (n ++ c.name) m v j c.within (Nexts.quoted_quote (get_or t j 0) c.quoted)
 
       abbrev said : List ℕ
       said = r.names ++ c.name
@@ -294,7 +294,7 @@ module _ (t : List ℕ) (i at room : ℕ) where
 
         again : (n m : List ℕ) (v : ℕ) → onward t Quoted n m v i ≡ onward t Quoted ((n ++ c.name) ++ (quote ∷ [])) m v (j + 2)
         again n m v =
-            at_quote n m v ∙ onward_quoted t Closed (n ++ c.name) m v (j + 1) quote_goes (Nexts.closed-quote (get_or t (j + 1) 0) e)
+            at_quote n m v ∙ onward_quoted t Closed (n ++ c.name) m v (j + 1) quote_goes (Nexts.closed_quote (get_or t (j + 1) 0) e)
             ∙ ap (λ x. onward t Quoted ((n ++ c.name) ++ (x ∷ [])) m v (j + 1 + 1)) e ∙ ap (λ x. onward t Quoted ((n ++ c.name) ++ (quote ∷ [])) m v x) two
 
         pub quote_room : k < length names₀
@@ -350,12 +350,12 @@ module _ (t : List ℕ) (i at room : ℕ) where
           where
             go : (b : Bool) → nat_eq (get_or t (j + 1) 0) comma ≡ b → get_or t (j + 1) 0 ≡ comma
             go true z = eqb-true _ _ z
-            go false z = absurd (silent r.all_names r.all_numbers (sym (onward_wrong t Closed said r.numbers r.value (j + 1) quote_goes (Nexts.closed-wrong (get_or t (j + 1) 0) e (eqb-false _ _ z))) ∙ closed))
+            go false z = absurd (silent r.all_names r.all_numbers (sym (onward_wrong t Closed said r.numbers r.value (j + 1) quote_goes (Nexts.closed_wrong (get_or t (j + 1) 0) e (eqb-false _ _ z))) ∙ closed))
 
         over_comma : (n m : List ℕ) (v : ℕ) → onward t Quoted n m v i ≡ onward t Number ((n ++ c.name) ++ (0 ∷ [])) m 0 (j + 2)
         over_comma n m v =
             let two : j + 1 + 1 ≡ j + 2 = omega arith in
-            at_quote n m v ∙ onward_number t Closed (n ++ c.name) m v (j + 1) quote_goes (Nexts.closed-comma (get_or t (j + 1) 0) the_comma)
+            at_quote n m v ∙ onward_number t Closed (n ++ c.name) m v (j + 1) quote_goes (Nexts.closed_comma (get_or t (j + 1) 0) the_comma)
             ∙ ap (λ x. onward t Number ((n ++ c.name) ++ (0 ∷ [])) m 0 x) two
 
         pub last_room : k < length names₀

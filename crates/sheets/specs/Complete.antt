@@ -101,7 +101,7 @@ unfolding next if◌then◌else◌
 opened_next b e = rw e
 
 pub number_quoted_next : (b : ℕ) → is_digit b ≡ true → next NumberQuoted b ≡ NumberQuoted
-unfolding next Reader.numberQuoted if◌then◌else◌
+unfolding next Reader.number_quoted if◌then◌else◌
 number_quoted_next b e = rw (digit_quote b e, e)
 
 -- the bytes that a sheet tells apart
@@ -110,7 +110,7 @@ unfolding next Reader.unquoted Reader.quoted Reader.closed if◌then◌else◌
 marks = (refl, refl, refl, refl, refl, refl)
 
 pub number_marks : (next Number quote ≡ NumberOpened) × (next NumberQuoted quote ≡ NumberClosed) × (next Digits cr ≡ Return) × (next NumberClosed cr ≡ Return) × (next Return lf ≡ Start)
-unfolding next Reader.number Reader.numberQuoted Reader.digits Reader.rowEnd is_digit if◌then◌else◌
+unfolding next Reader.number Reader.number_quoted Reader.digits Reader.row_end is_digit if◌then◌else◌
 number_marks = (refl, refl, refl, refl, refl)
 
 -- an unquoted name, and the comma behind it

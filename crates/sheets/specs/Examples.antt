@@ -12,7 +12,7 @@ use Rattle.sheets.specs.Theorem.{Writable, round_trip}
 -- "a""b",007 CR LF ,"4294967296" : two rows, the second without a name, its number too large (which is 20), the last CR LF missing.
 pub two_rows : reading (34 ∷ 97 ∷ 34 ∷ 34 ∷ 98 ∷ 34 ∷ 44 ∷ 48 ∷ 48 ∷ 55 ∷ 13 ∷ 10 ∷ 44 ∷ 34 ∷ 52 ∷ 50 ∷ 57 ∷ 52 ∷ 57 ∷ 54 ∷ 55 ∷ 50 ∷ 57 ∷ 54 ∷ 34 ∷ [])
     ≡ lists (97 ∷ 34 ∷ 98 ∷ 0 ∷ 0 ∷ []) (7 ∷ 4294967296 ∷ [])
-unfolding reading run fed moved next Reader.unquoted Reader.quoted Reader.closed Reader.number Reader.digits Reader.numberQuoted Reader.rowEnd bare is_digit effect said valued told fresh ended ended_as ending if◌then◌else◌
+unfolding reading run fed moved next Reader.unquoted Reader.quoted Reader.closed Reader.number Reader.digits Reader.number_quoted Reader.row_end bare is_digit effect said valued told fresh ended ended_as ending if◌then◌else◌
 two_rows = refl
 
 -- An empty text is an empty list. A row end alone, a bare LF, a CR at the end, a zero byte in a name, a quote in an unquoted name, a blank
@@ -29,7 +29,7 @@ pub edges :
     × (reading (97 ∷ 44 ∷ 49 ∷ 44 ∷ 49 ∷ []) ≡ nothing)
     × (reading (97 ∷ 44 ∷ []) ≡ nothing)
     × (reading (97 ∷ 44 ∷ 34 ∷ 34 ∷ []) ≡ nothing)
-unfolding reading run fed moved next Reader.unquoted Reader.quoted Reader.closed Reader.number Reader.digits Reader.numberQuoted Reader.rowEnd bare is_digit effect said valued told fresh ended ended_as ending if◌then◌else◌
+unfolding reading run fed moved next Reader.unquoted Reader.quoted Reader.closed Reader.number Reader.digits Reader.number_quoted Reader.row_end bare is_digit effect said valued told fresh ended ended_as ending if◌then◌else◌
 edges = (refl, refl, refl, refl, refl, refl, refl, refl, refl, refl, refl)
 
 -- a"b and 4294967295 are written "a""b",4294967295 CR LF; a blank and 0 are written as they are.

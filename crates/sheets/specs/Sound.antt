@@ -235,7 +235,7 @@ module _ (b v : ℕ) (t x y : List ℕ) where
   row_end_lem e m y' k = inr (m.0, ap₂ (λ k l. k ∷ l) (eqb→eq b cr e) m.1, subst (λ l. Rest m.0 x l) (sym k) m.2)
 
   back_digits : Back Digits (next Digits b)
-  unfolding next Reader.digits Reader.rowEnd effect said told valued worth
+  unfolding next Reader.digits Reader.row_end effect said told valued worth
   back_digits =
       choose (Back Digits) (is_digit b) Digits _
       (λ e m. record { digits = b ∷ m.digits; behind = m.behind; text = ap (λ l. b ∷ l) m.text; proper = every_more is_digit b m.digits (T_true _ e) m.proper; end = m.end })
@@ -251,7 +251,7 @@ module _ (b v : ℕ) (t x y : List ℕ) where
       (λ _ w. absurd w)
 
   back_number_quoted : Back NumberQuoted (next NumberQuoted b)
-  unfolding next Reader.numberQuoted effect said told valued worth
+  unfolding next Reader.number_quoted effect said told valued worth
   back_number_quoted =
       choose (Back NumberQuoted) (nat_eq b quote) NumberClosed _
       (λ e m. record { digits = []; behind = t; text = ap (λ k. k ∷ t) (eqb→eq b quote e); proper = every_none is_digit; end = m })
@@ -260,7 +260,7 @@ module _ (b v : ℕ) (t x y : List ℕ) where
       (λ _ w. absurd w))
 
   back_number_closed : Back NumberClosed (next NumberClosed b)
-  unfolding next Reader.rowEnd effect said told valued
+  unfolding next Reader.row_end effect said told valued
   back_number_closed =
       choose (Back NumberClosed) (nat_eq b cr) Return Wrong
       (λ e m. record { after = y; told_y = refl; tail = row_end_lem e m y refl })

@@ -3,7 +3,7 @@ use Rattle.std.specs.Prelude.{◌≡◌, refl, Bool, true, false, not, ◌&&◌,
 use Rattle.std.proofs.Math.Path.{sym, ap, ap₂}
 use Rattle.std.proofs.Common.{◌∙◌, subst, arith, eqb→eq, length-drop, take-append-drop, length-take-le, take-add}
 use Rattle.std.specs.Int.Bits.{bit_or}
-use Rattle.std.proofs.Math.Dec.{nat_eq}
+use Rattle.std.proofs.Common.{nat_eq}
 use Rattle.std.proofs.Math.Seq.{take-length}
 use Rattle.lists.specs.Basics.{if◌then◌else◌, every, distinct, table}
 use Rattle.lists.specs.Tests.{and_true, and_false, true_T, says_same, says_so, says_as, says_and, says_eq, says_le}
