@@ -6,7 +6,7 @@ use crate::telling::tell_failure;
 use libc::STDIN_FILENO;
 
 // What a read brought: so many bytes, at least one; the end of the input; or nothing more, since it failed.
-#[derive(Drop)]
+#[derive(Clone, Copy)]
 pub enum Arrival {
     Bytes(usize),
     End,

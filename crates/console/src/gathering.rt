@@ -3,7 +3,7 @@ ghost use Rattle.std.specs.Prelude.{◌≡◌, ◌≤◌, ◌<◌, length, take,
 ghost use Rattle.console.specs.Lines.{kept, gathered};
 
 // How many bytes of the line are held, where the input goes on, and whether the line has ended, which LF does.
-#[derive(Drop)]
+#[derive(Clone, Copy)]
 pub struct Gathered {
     pub held: usize,
     pub at: usize,

@@ -9,7 +9,7 @@ use sheets::{Effect, Place, digit_value, word_of};
 
 // Where the reader stands, the rows so far (65 for more than 64), the number that is being read (2^32 for one that is too large), and whether
 // all numbers so far fit a word.
-#[derive(Drop)]
+#[derive(Clone, Copy)]
 pub struct Hubs {
     pub place: Place,
     pub rows: usize,

@@ -26,7 +26,7 @@ fn begun() -> Hubs
 }
 
 // What a read brought, and what is held of all that was read.
-#[derive(Drop)]
+#[derive(Clone, Copy)]
 struct Turn {
     arrival: Arrival,
     hubs: Hubs,

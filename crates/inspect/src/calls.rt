@@ -7,14 +7,14 @@ use protocol::{Frame, Tally, answer_kinds};
 use wording::{UNWRITTEN, field, say};
 
 // What is kept beside the words: the tally, and how many of the words are lent to a call.
-#[derive(Drop)]
+#[derive(Clone, Copy)]
 pub struct Session {
     pub tally: Tally,
     pub lent: usize,
 }
 
 // What is kept after a line, and how many bytes its answer has.
-#[derive(Drop)]
+#[derive(Clone, Copy)]
 pub struct Answered {
     pub session: Session,
     pub end: usize,

@@ -3,7 +3,7 @@ use crate::bounds::{KEPT_WORDS, LAST_COUNT, MOST_PLACES};
 use crate::numerals::{Numeral, number_at};
 use lists::both;
 
-#[derive(Drop)]
+#[derive(Clone, Copy)]
 pub enum Inquiry {
     Row(u32),
     Roll(u32, usize),
@@ -17,7 +17,7 @@ pub enum Inquiry {
 }
 
 // Up to two numbers, and whether the line has just these.
-#[derive(Drop)]
+#[derive(Clone, Copy)]
 struct Numbers {
     first: u64,
     second: u64,

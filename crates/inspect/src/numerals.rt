@@ -1,12 +1,12 @@
 // Decimal numbers of a line.
-#[derive(Drop)]
+#[derive(Clone, Copy)]
 pub enum Numeral {
     Is(u64, usize),
     None,
 }
 
 // A number with one digit more; it has none where the byte is no digit or the number would exceed its limit.
-#[derive(Drop)]
+#[derive(Clone, Copy)]
 struct Value {
     value: u64,
     is: bool,

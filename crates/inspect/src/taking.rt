@@ -8,7 +8,7 @@ use wording::put;
 
 // What is kept, the bytes held of a line that has not ended yet, the place from which the bytes of the read are still to be taken, and
 // whether the answers could be written.
-#[derive(Drop)]
+#[derive(Clone, Copy)]
 pub struct Turn {
     pub session: Session,
     pub held: usize,

@@ -10,7 +10,7 @@ use protocol::form::RECORD_WORDS;
 use stream::{finish, take_bytes};
 
 // What a read brought, the bytes held of a line that has not ended yet, and the bytes of answers that wait to be written.
-#[derive(Drop)]
+#[derive(Clone, Copy)]
 struct Turn {
     arrival: Arrival,
     held: usize,

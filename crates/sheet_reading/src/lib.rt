@@ -14,28 +14,28 @@ pub use carried::read_sheet_bytes;
 pub use filling::read_sheet;
 
 // A name with its comma: where the number behind it begins, and how many bytes it takes in the names, its zero byte included.
-#[derive(Drop)]
+#[derive(Clone, Copy)]
 pub enum Name {
     None,
     Read { end: usize, bytes: usize },
 }
 
 // A number: where it ends, and what it is, up to 2^32, which is already too large for an identifier.
-#[derive(Drop)]
+#[derive(Clone, Copy)]
 pub enum Number {
     None,
     Read { end: usize, value: usize },
 }
 
 // The end of a row: where the next one begins.
-#[derive(Drop)]
+#[derive(Clone, Copy)]
 pub enum RowEnd {
     None,
     At(usize),
 }
 
 // A row: where the next one begins, and what name and number are as above.
-#[derive(Drop)]
+#[derive(Clone, Copy)]
 pub enum RowRead {
     None,
     Read {
@@ -46,7 +46,7 @@ pub enum RowRead {
 }
 
 // A text: no sheet, or one of so many rows and bytes of names, whose identifiers all fit a word or not.
-#[derive(Drop)]
+#[derive(Clone, Copy)]
 pub enum Judged {
     None,
     Sheet {
@@ -57,21 +57,21 @@ pub enum Judged {
 }
 
 // Digits one after the other: where they end, and the number that they make, up to 2^32.
-#[derive(Drop)]
+#[derive(Clone, Copy)]
 pub struct Run {
     pub end: usize,
     pub value: usize,
 }
 
 // A name written: where the number behind it begins, and the place behind the name in the names.
-#[derive(Drop)]
+#[derive(Clone, Copy)]
 pub struct Put {
     pub end: usize,
     pub at: usize,
 }
 
 // A row written, up to its number: where the next row begins, the place behind its name, and the number.
-#[derive(Drop)]
+#[derive(Clone, Copy)]
 pub struct RowPut {
     pub end: usize,
     pub at: usize,

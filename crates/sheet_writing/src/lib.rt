@@ -10,7 +10,7 @@ pub use words::write_sheet_bytes;
 pub use writing::write_sheet;
 
 // What is known of a name before it is written: how many bytes and quotes it has, and whether it may stand unquoted.
-#[derive(Drop)]
+#[derive(Clone, Copy)]
 pub struct Scan {
     pub length: usize,
     pub quotes: usize,
@@ -18,7 +18,7 @@ pub struct Scan {
 }
 
 // The room that is left in a text, if there is any.
-#[derive(Drop)]
+#[derive(Clone, Copy)]
 pub enum Room {
     Short,
     Left(usize),

@@ -16,7 +16,7 @@ pub const CR: u8 = 13;
 pub const LF: u8 = 10;
 
 // Where a reader stands between two bytes of a sheet; Wrong where no sheet begins with the bytes before. (specs/Reader.antt)
-#[derive(Drop)]
+#[derive(Clone, Copy)]
 pub enum Place {
     Start,
     Plain,
@@ -34,7 +34,7 @@ pub enum Place {
 
 // What a byte does at the place that it leads to: nothing; it is a byte of the name; it ends the name; it is a figure of the number; it ends
 // the row.
-#[derive(Drop)]
+#[derive(Clone, Copy)]
 pub enum Effect {
     Quiet,
     Letter,
@@ -44,7 +44,7 @@ pub enum Effect {
 }
 
 // What a text that ends at a place ends behind, if a sheet may end there.
-#[derive(Drop)]
+#[derive(Clone, Copy)]
 pub enum Ending {
     Within,
     BehindRows,
@@ -52,7 +52,7 @@ pub enum Ending {
 }
 
 // What reading or writing a sheet gives: how many rows and bytes were written, or the number of a refusal.
-#[derive(Drop)]
+#[derive(Clone, Copy)]
 pub enum Outcome {
     Refused(u32),
     Done { rows: usize, bytes: usize },

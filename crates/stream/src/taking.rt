@@ -7,14 +7,14 @@ use crate::answering::answer;
 use console::gather;
 
 // How far a run has come: the bytes held of a line that has not ended yet, and the bytes of answers that wait to be written.
-#[derive(Drop)]
+#[derive(Clone, Copy)]
 pub struct Progress {
     pub held: usize,
     pub waiting: usize,
 }
 
 // The same in the middle of a read, with the place from which its bytes are still to be taken.
-#[derive(Drop)]
+#[derive(Clone, Copy)]
 struct Turn {
     pub held: usize,
     pub waiting: usize,
