@@ -6,7 +6,7 @@ use crate::perform::step;
 use protocol::{Outcome, Tally};
 
 // A step's outcome, and the tally after it.
-#[derive(Drop)]
+#[derive(Clone, Copy)]
 pub struct Tallied {
     pub outcome: Outcome,
     pub tally: Tally,
