@@ -1,0 +1,15 @@
+-- `merged_halves`: the words of both parts before i, merged. Assumes nothing.
+use borrow.Author.Rules.{rules}
+use mathlib.Core.Path.{◌≡◌, sym, ◌∙◌, ap}
+use Prim.Native.Nat.{◌≤◌, ◌-◌}
+use native.Mathlib.Omega.{arith}
+use lib.Bits.{bit_or}
+use lib.ListN.{length, get_or}
+use Rattle.lists.specs.Merge.{merged, merged_none, merged_more}
+use Rattle.wellformed.proofs.content.merged_halves.Given as goal
+
+abbrev pub invariant-loop-i : goal.invariant-loop-i
+invariant-loop-i l = (l.i ≤ length l.first) × (l.all ≡ merged l.i (λ i'. bit_or (get_or l.first i' 0) (get_or l.second i' 0)))
+
+abbrev pub decreases-loop-i : goal.decreases-loop-i
+decreases-loop-i l = length l.first - l.i

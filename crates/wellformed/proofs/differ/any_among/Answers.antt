@@ -1,0 +1,21 @@
+-- `any_among`: the failures of the first i identifiers against four others, merged. Assumes nothing.
+use borrow.Author.Rules.{rules}
+use mathlib.Core.Path.{◌≡◌, sym, ◌∙◌, ap}
+use Prim.Native.Nat.{◌≤◌, ◌-◌}
+use native.Mathlib.Omega.{arith}
+use lib.ListN.{get_or}
+use Rattle.lists.specs.Basics.{if◌then◌else◌}
+use Rattle.lists.specs.Merge.{merged, merged_none, merged_more, unlike_all}
+use Rattle.wellformed.proofs.differ.any_among.Goals as goal
+
+pub loop-j-init : goal.loop-j-init
+loop-j-init c = (search rules, sym (merged_none _))
+
+pub loop-j-preserved : goal.loop-j-preserved
+loop-j-preserved c = let l = c.loop-j in (search rules, rw (merged_more, ← l.invariant.1, c.among-bad.ensures))
+
+pub returns : goal.returns
+returns c =
+    let a = c.args in
+    let e : c.loop-j.j ≡ a.i = omega arith in
+    c.loop-j.invariant.1 ∙ ap (λ k. merged k (λ j. if unlike_all a.a a.b a.c a.d (get_or a.ids.now j 0) then 0 else 1)) e

@@ -1,0 +1,8 @@
+-- `pointers_ok`: the state decides which pointers there may be. Assumes nothing.
+use Rattle.protocol.specs.WellFormed.{pointers_ok}
+use borrow.Author.Rules.{rules}
+use Rattle.wellformed.proofs.row.pointers_ok.Goals as goal
+
+pub returns : goal.returns
+unfolding pointers_ok
+returns c = cc
