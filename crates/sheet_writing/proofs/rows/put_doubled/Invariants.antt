@@ -1,0 +1,14 @@
+-- `put_doubled`: the first i bytes of the name are written, quotes twice. Assumes nothing.
+use mathlib.Core.Path.{◌≡◌, refl, ◌∙◌}
+use Prim.Native.Nat.{◌≤◌, ◌-◌}
+use native.Mathlib.Omega.{arith}
+use lib.ListN.{length}
+use Rattle.sheet_writing.specs.Writing.{Doubling, doubling_none, doubling_more, double_fits}
+use borrow.Author.Rules.{rules}
+use Rattle.sheet_writing.proofs.rows.put_doubled.Given as goal
+
+abbrev pub invariant-loop-i : goal.invariant-loop-i
+invariant-loop-i l = (l.i ≤ l.count) × Doubling l.initial.text l.text l.name l.at l.i l.to × (length l.text ≡ length l.initial.text)
+
+abbrev pub decreases-loop-i : goal.decreases-loop-i
+decreases-loop-i l = l.count - l.i

@@ -1,0 +1,18 @@
+-- `put_rows`: what is written, and the rows from i on, are the sheet. Assumes nothing.
+use mathlib.Core.Path.{◌≡◌, refl, ◌∙◌, ap}
+use Prim.Native.Nat.{◌≤◌, ◌-◌, ◌+◌}
+use native.Mathlib.Omega.{arith}
+use lib.ListN.{length, drop, get_or}
+use Rattle.lists.specs.Splice.{part_from}
+use Rattle.sheets.specs.Writer.{first_name, row_text, rows_in, write_sheet, zeros}
+use Rattle.sheets.specs.Calls.{sheet_text}
+use Rattle.sheet_writing.specs.Scanning.{scanned}
+use Rattle.sheet_writing.specs.Writing.{Written, written_none, written_room, written_more, written_all, step_within, step_zeros, step_rows, rows_out}
+use borrow.Author.Rules.{rules}
+use Rattle.sheet_writing.proofs.writing.put_rows.Given as goal
+
+abbrev pub invariant-loop-i : goal.invariant-loop-i
+invariant-loop-i l = (l.i ≤ length l.identifiers) × (l.at ≤ length l.names) × (zeros (drop l.at l.names) ≡ length l.identifiers - l.i) × Written (sheet_text l.names l.identifiers) l.initial.text l.text (write_sheet (rows_in (drop l.at l.names) (drop l.i l.identifiers))) l.out × (length l.text ≡ length l.initial.text)
+
+abbrev pub decreases-loop-i : goal.decreases-loop-i
+decreases-loop-i l = length l.identifiers - l.i
