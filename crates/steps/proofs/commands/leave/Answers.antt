@@ -1,0 +1,69 @@
+-- `leave`: its questions in order, then the row and the LEAVEREQ message. Assumes nothing.
+use Rattle.steps.specs.Settle.{settled, settled_is}
+use Rattle.steps.specs.Questions.{leave_4, leave_5, leave_7, leave_8, leave_11, leave_sent}
+use Rattle.protocol.specs.Record.{read, row, messages_in}
+use Rattle.protocol.specs.Routing.{in_ring}
+use Rattle.protocol.specs.Kinds.{note, with_state, with_lock}
+use Rattle.protocol.specs.Names.{LEAVEREQ}
+use Rattle.protocol.specs.declared.Decision.TheVariants.{Send}
+use Rattle.protocol.specs.declared.Answer.TheVariants.{Quiet}
+use Rattle.protocol.specs.Calls.{written}
+use borrow.Author.Tests.{not-true, not-false}
+use mathlib.Core.Path.{◌≡◌, ◌∙◌, ap, sym}
+use borrow.Author.Rules.{rules}
+use Rattle.steps.proofs.commands.leave.Goals as goal
+
+pub returns-then-w-x : goal.returns-then-w-x
+unfolding written
+returns-then-w-x c =
+    let a = c.args in
+    ap (written a.w.now) (leave_4 a.w.now a.x c.if-w-x.true)
+
+pub returns-then-not-in_ring : goal.returns-then-not-in_ring
+unfolding written
+returns-then-not-in_ring c =
+    let a = c.args in
+    let h = c.row_of-h in
+    ap (written a.w.now) (leave_5 a.w.now a.x c.if-w-x.false (ap in_ring (sym h.ensures) ∙ sym c.in_ring.ensures ∙ c.if-not-in_ring.true))
+
+pub returns-then-h-ne0 : goal.returns-then-h-ne0
+unfolding written
+returns-then-h-ne0 c =
+    let a = c.args in
+    let h = c.row_of-h in
+    let ring = ap in_ring (sym h.ensures) ∙ sym c.in_ring.ensures ∙ c.if-not-in_ring.false in
+    ap (written a.w.now) (leave_7 a.w.now a.x c.if-w-x.false ring (λ e. c.if-h-ne0.true (ap (λ z. z.lock) h.ensures ∙ e)))
+
+pub returns-then-h-x : goal.returns-then-h-x
+unfolding written
+returns-then-h-x c =
+    let a = c.args in
+    let h = c.row_of-h in
+    let ring = ap in_ring (sym h.ensures) ∙ sym c.in_ring.ensures ∙ c.if-not-in_ring.false in
+    let free = sym (ap (λ z. z.lock) h.ensures) ∙ c.if-h-ne0.false in
+    ap (written a.w.now) (leave_8 a.w.now a.x c.if-w-x.false ring free (sym (ap (λ z. z.succ) h.ensures) ∙ c.if-h-x.true))
+
+pub returns-then-m-lt-MOST_MESSAGES : goal.returns-then-m-lt-MOST_MESSAGES
+returns-then-m-lt-MOST_MESSAGES c =
+    let a = c.args in
+    let w = a.w.now in
+    let h = c.row_of-h in
+    let ring = ap in_ring (sym h.ensures) ∙ sym c.in_ring.ensures ∙ c.if-not-in_ring.false in
+    let free = sym (ap (λ z. z.lock) h.ensures) ∙ c.if-h-ne0.false in
+    let room = c.if-m-lt-MOST_MESSAGES.true in
+    let sends : Send (with_lock (with_state h.result 3) 1) c.note.result Quiet
+    ≡ Send (with_lock (with_state (row (read w) a.x) 3) 1) (note LEAVEREQ a.x (row (read w) a.x).succ 0) Quiet =
+    ap (λ u. Send (with_lock (with_state h.result 3) 1) u Quiet) c.note.ensures
+    ∙ ap (λ z. Send (with_lock (with_state z 3) 1) (note LEAVEREQ a.x z.succ 0) Quiet) h.ensures in
+    ap (written w) (leave_sent w a.x c.if-w-x.false ring free (λ e. c.if-h-x.false (ap (λ z. z.succ) h.ensures ∙ e)) room)
+    ∙ sym (ap (settled w (messages_in w) a.x) sends ∙ settled_is w c.requires a.x _ c.if-w-x.false room)
+    ∙ c.settle.ensures
+
+pub returns : goal.returns
+unfolding written
+returns c =
+    let a = c.args in
+    let h = c.row_of-h in
+    let ring = ap in_ring (sym h.ensures) ∙ sym c.in_ring.ensures ∙ c.if-not-in_ring.false in
+    let free = sym (ap (λ z. z.lock) h.ensures) ∙ c.if-h-ne0.false in
+    ap (written a.w.now) (leave_11 a.w.now a.x c.if-w-x.false ring free (λ e. c.if-h-x.false (ap (λ z. z.succ) h.ensures ∙ e)) c.if-m-lt-MOST_MESSAGES.false)
