@@ -1,0 +1,22 @@
+-- `by_preds`: of the first h nodes, the gaps, what they add up to, and whether a member's pred is none. Assumes nothing.
+use borrow.Author.Rules.{rules}
+use mathlib.Core.Path.{◌≡◌, refl, sym, ◌∙◌, ap, ap₂}
+use Prim.Native.Nat.{ℕ, ◌+◌, ◌*◌, ◌-◌, ◌≤◌, ◌<◌}
+use native.Mathlib.Omega.{arith}
+use Rattle.std.specs.Prelude.{nat_eq}
+use lib.Dec.{eqb→eq}
+use lib.ListN.{length, get_or, length-set}
+use Rattle.lists.specs.Basics.{if◌then◌else◌}
+use Rattle.lists.specs.Members.{filled}
+use Rattle.lists.specs.Merge.{merged, merged_none, merged_more}
+use Rattle.lists.specs.Tests.{true_T, and_left, and_right}
+use Rattle.cardlayout.specs.Circle.{total, total_none, total_more}
+use Rattle.card_checks.specs.Preds.{gap_back, strange, arc_back, preds_law}
+use Rattle.card_checks.proofs.preds.by_preds.Given as goal
+
+abbrev pub invariant-loop-h : goal.invariant-loop-h
+invariant-loop-h l = (l.h ≤ l.n) × (length l.reaches ≡ length l.initial.reaches) × ((j : ℕ) → j < l.h → get_or l.reaches j 0 ≡ gap_back l.w l.names j)
+    × (l.strangers ≡ merged l.h (strange l.w l.marks)) × (l.circle ≡ total (arc_back l.w l.names l.marks) l.h) × (l.circle ≤ 4294967296 * l.h)
+
+abbrev pub decreases-loop-h : goal.decreases-loop-h
+decreases-loop-h l = l.n - l.h
