@@ -1,0 +1,61 @@
+-- `founding::found` gives what `fresh_by_call` says: four refusals that keep the words, each by the tests before it, and the founding. Assumes nothing.
+use mathlib.Core.Path.{sym, ◌∙◌}
+use native.Mathlib.Omega.{arith}
+use lib.ListN.{length}
+use borrow.Author.Tests.{eq-eqb, ne_eqb, lt-leb, le-leb, lt-ltb, le-ltb, not-true, not-false}
+use Rattle.lists.specs.Basics.{if◌then◌else◌, require}
+use Rattle.protocol.specs.Calls.{long, written, fresh_by_call}
+use Rattle.founding.specs.Laws.{differ, some_few}
+use borrow.Author.Rules.{rules}
+use Rattle.founding.proofs.found.Goals as goal
+
+pub returns-then-w-lt-RECORD_WORDS : goal.returns-then-w-lt-RECORD_WORDS
+unfolding fresh_by_call long require if◌then◌else◌
+returns-then-w-lt-RECORD_WORDS c = simp (lt-leb _ _ c.if-w-lt-RECORD_WORDS.true)
+
+pub returns-then-not-both : goal.returns-then-not-both
+unfolding fresh_by_call long require if◌then◌else◌
+returns-then-not-both c = simp (le-leb _ _ c.if-w-lt-RECORD_WORDS.false, ← c.both.ensures, c.if-not-both.true)
+
+pub returns-then-repeated-ne0 : goal.returns-then-repeated-ne0
+unfolding fresh_by_call long require if◌then◌else◌
+returns-then-repeated-ne0 c =
+    simp (
+      le-leb _ _ c.if-w-lt-RECORD_WORDS.false,
+      ← c.both.ensures,
+      c.if-not-both.false,
+      ← differ c.args.identifiers.now c.repeated.result c.repeated.ensures,
+      ne_eqb _ _ c.if-repeated-ne0.true,
+    )
+
+pub returns-then-identifiers-node : goal.returns-then-identifiers-node
+unfolding fresh_by_call long require if◌then◌else◌
+returns-then-identifiers-node c =
+    simp (
+      le-leb _ _ c.if-w-lt-RECORD_WORDS.false,
+      ← c.both.ensures,
+      c.if-not-both.false,
+      ← differ c.args.identifiers.now c.repeated.result c.repeated.ensures,
+      eq-eqb _ _ c.if-repeated-ne0.false,
+      ← c.founding_node-node.ensures,
+      le-ltb _ _ c.if-identifiers-node.true,
+    )
+
+pub write_fresh-requires : goal.write_fresh-requires
+write_fresh-requires c =
+    let k = some_few (length c.args.identifiers.now) (sym c.both.ensures ∙ c.if-not-both.false) in
+    (c.if-identifiers-node.false, k.1, omega arith)
+
+pub returns : goal.returns
+unfolding fresh_by_call long written require if◌then◌else◌
+returns c =
+    simp (
+      le-leb _ _ c.if-w-lt-RECORD_WORDS.false,
+      ← c.both.ensures,
+      c.if-not-both.false,
+      ← differ c.args.identifiers.now c.repeated.result c.repeated.ensures,
+      eq-eqb _ _ c.if-repeated-ne0.false,
+      ← c.founding_node-node.ensures,
+      lt-ltb _ _ c.if-identifiers-node.false,
+      c.write_fresh.ensures,
+    )

@@ -1,0 +1,15 @@
+-- `founding::founder::smallest` is `smallest`: of the first i nodes, `node` has the smallest identifier so far. Assumes nothing.
+use borrow.Author.Rules.{rules}
+use native.Mathlib.Omega.{arith}
+use mathlib.Core.Logic.{inl, inr}
+use mathlib.Core.Path.{sym, subst}
+use Prim.Native.Nat.{◌≤◌, ◌+◌, ◌-◌}
+use lib.ListN.{length}
+use Rattle.layout.specs.Founder.{Least, least_one, least_new, least_same, walk_ends}
+use Rattle.founding.proofs.founder.smallest.Given as goal
+
+abbrev pub invariant-loop-i : goal.invariant-loop-i
+invariant-loop-i l = (l.i ≤ 1 + (length l.identifiers - 1)) × Least l.identifiers l.i l.node
+
+abbrev pub decreases-loop-i : goal.decreases-loop-i
+decreases-loop-i l = length l.identifiers - l.i
