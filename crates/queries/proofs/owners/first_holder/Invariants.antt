@@ -1,0 +1,17 @@
+-- `first_holder`: a search that has found no holder below the node it has come to. Assumes nothing.
+use mathlib.Core.Path.{◌≡◌, sym, ◌∙◌}
+use Prim.Native.Nat.{◌≤◌, ◌-◌}
+use native.Mathlib.Omega.{arith}
+use borrow.Author.Rules.{rules}
+use Rattle.lists.specs.Basics.{first}
+use Rattle.lists.specs.Search.{first_none, first_more, first_at}
+use Rattle.protocol.specs.Record.{read, count_in}
+use Rattle.protocol.specs.Membership.{holds}
+use Rattle.queries.specs.Questions.{lowest_read}
+use Rattle.queries.proofs.owners.first_holder.Given as goal
+
+abbrev pub invariant-loop-node : goal.invariant-loop-node
+invariant-loop-node l = (l.node ≤ l.n) × (first (λ k. holds (read l.w) k l.v) l.node ≡ l.node)
+
+abbrev pub decreases-loop-node : goal.decreases-loop-node
+decreases-loop-node l = l.n - l.node
