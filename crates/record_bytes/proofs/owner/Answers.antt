@@ -1,0 +1,19 @@
+-- `owner` meets its contract: the query on the record is the query on all words. Assumes nothing.
+use mathlib.Core.Path.{◌∙◌}
+use native.Mathlib.Omega.{arith}
+use Rattle.record_bytes.specs.Results.{owner_17, owner_1, owner_rest}
+use borrow.Author.Rules.{rules}
+use Rattle.record_bytes.proofs.owner.Lts as lts
+use Rattle.record_bytes.proofs.owner.Goals as goal
+
+pub returns-then-out-lt4 : goal.returns-then-out-lt4
+returns-then-out-lt4 c = owner_17 c.args.words.now c.args.out.now c.args.number (omega arith)
+
+pub returns-then-words-lt-RECORD_BYTES : goal.returns-then-words-lt-RECORD_BYTES
+returns-then-words-lt-RECORD_BYTES c = owner_1 c.args.words.now c.args.out.now c.args.number (omega arith) (omega arith)
+
+pub returns : goal.returns
+returns c =
+    let a = c.args in
+    owner_rest a.words.now a.out.now a.number (omega arith) (omega arith)
+    ∙ rw (← c.loaded-w.ensures, ← c.owner-r.ensures) c.finish_owner.ensures

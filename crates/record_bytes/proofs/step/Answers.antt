@@ -1,0 +1,25 @@
+-- `step` meets its contract: the bytes' words are the record and what is behind it, the step on the record is the step on all, and writing the record back is writing all back. Assumes nothing.
+use mathlib.Core.Path.{◌∙◌}
+use native.Mathlib.Omega.{arith}
+use Rattle.lists.specs.Basics.{All}
+use Rattle.lists.specs.Members.{all_at}
+use Rattle.protocol.specs.Bytes.{Byte}
+use Rattle.record_bytes.specs.Results.{step_17, step_1, step_rest}
+use borrow.Author.Rules.{rules}
+use Rattle.record_bytes.proofs.step.Lts as lts
+use Rattle.record_bytes.proofs.step.Goals as goal
+
+pub returns-then-out-lt20 : goal.returns-then-out-lt20
+returns-then-out-lt20 c = let a = c.args in step_17 a.words.now a.out.now a.operation a.x a.y (omega arith)
+
+pub returns-then-words-lt-RECORD_BYTES : goal.returns-then-words-lt-RECORD_BYTES
+returns-then-words-lt-RECORD_BYTES c = let a = c.args in step_1 a.words.now a.out.now a.operation a.x a.y (omega arith) (omega arith)
+
+pub returns : goal.returns
+returns c =
+    let a = c.args in
+    let b = a.words.now in
+    let bytes : All Byte b = all_at Byte b 0 (λ i h. omega (arith, c.slice_known-1.given i)) in
+    step_rest b a.out.now a.operation a.x a.y bytes (omega arith) (omega arith) _ _ (search rules)
+    (rw c.loaded-w.ensures at c.step-r.ensures)
+    ∙ c.finish.ensures
