@@ -1,0 +1,12 @@
+-- `read`: 17, or what the call tells. Assumes nothing.
+use native.Mathlib.Omega.{arith}
+use Rattle.sheet_bytes.specs.Told.{told_read, read_17, read_told}
+use borrow.Author.Rules.{rules}
+use Rattle.sheet_bytes.proofs.read.Goals as goal
+
+pub returns-then-counts-lt-COUNTS_BYTES : goal.returns-then-counts-lt-COUNTS_BYTES
+returns-then-counts-lt-COUNTS_BYTES c = read_17 c.args.text.now c.args.identifiers.now c.args.names.now c.args.counts.now c.if-counts-lt-COUNTS_BYTES.true
+
+pub returns : goal.returns
+unfolding told_read
+returns c = rw (c.finish_sheet.ensures.0, c.finish_sheet.ensures.1) (read_told c.args.text.now c.args.identifiers.now c.args.names.now c.args.counts.now _ (omega arith) c.read_sheet_bytes-r.ensures)
