@@ -348,7 +348,7 @@ module _ (ids : List ℕ) (founder : ℕ) (rest : List ℕ) where
   goes events prices w k S (step c ∷ calls) a =
       let d = stepped S c a.0 in
       after_step events prices w k c calls (called present w c).outcome (called present w c).slice (made w k (step c)) refl refl d.outcome d.slice
-      (goes _ prices (called present w c).slice (made w k (step c)).cards d.stage calls a.1)
+      (goes (events ++ (record { call = c; outcome = (called present w c).outcome } ∷ [])) prices (called present w c).slice (made w k (step c)).cards d.stage calls a.1)
   goes events prices w k S (offer o ∷ calls) a =
       let d = taken S o a.0.0 in
       after_offer events prices w k o calls (made w k (offer o)) d.slice
@@ -357,7 +357,7 @@ module _ (ids : List ℕ) (founder : ℕ) (rest : List ℕ) where
       let l = long_enough S.course in
       let f = well_formed_lem S.course in
       after_route events prices w k r calls (made w k (route r)).outcome (made w k (route r)).slice (route_history w r l f) (route_record w r l f)
-      (goes _ prices (record_after present w (asks r)) k (asked S r a.0) calls a.1)
+      (goes (events ++ history present w (asks r)) prices (record_after present w (asks r)) k (asked S r a.0) calls a.1)
 
 -- the steps' numbers
 steps_words : (calls : List CardCall) → All InWords calls → All ThreeWords (steps calls)
