@@ -1,5 +1,5 @@
--- The reader: a byte at a time, from place to place. `decides` (proofs/Theorem.antt) says that it reads exactly the sheets of Grammar.antt. Assumes
--- nothing.
+-- The reader: a byte at a time, from place to place. `decides` (proofs/Theorem.antt) says that it reads exactly the sheets of Grammar.antt.
+-- Assumes nothing.
 use Rattle.std.specs.Prelude.{List, [], ◌∷◌, ◌++◌, ℕ, ◌+◌, ◌-◌, ◌*◌, nat_eq}
 use Rattle.lists.specs.Basics.{if◌then◌else◌}
 use Rattle.sheets.specs.declared.Place.{Place}
