@@ -3,7 +3,5 @@ pub mod Routes
 pub mod Lasting
 pub mod Offers
 pub mod Kept
-pub mod Prices
-pub mod Theorem
 pub mod Instance
 pub mod Refuted

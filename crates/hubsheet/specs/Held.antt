@@ -18,7 +18,7 @@ use Rattle.sheets.specs.declared.Place.TheVariants.{Start}
 use Rattle.sheets.specs.declared.Effect.{Effect}
 use Rattle.sheets.specs.declared.Effect.TheVariants.{Quiet, Letter, EndName, Figure, EndRow}
 use Rattle.sheets.specs.Reader.{Reader, next, effect, said, told, valued, moved, fed, run, fresh}
-use Rattle.sheets.specs.Complete.{run_append}
+use Rattle.sheets.proofs.Complete.{run_append}
 use Rattle.sheets.specs.Calls.{is_word}
 use Rattle.sheets.specs.Words.{word, words, words_append, length_words, cap_word, every_one}
 use Rattle.hubsheet.specs.declared.hubs.Hubs.{Hubs}

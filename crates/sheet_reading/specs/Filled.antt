@@ -21,7 +21,7 @@ use Rattle.sheets.specs.Reader.{Said, nothing, lists, fresh, reading, ending, en
 use Rattle.sheets.specs.Calls.{laid, is_word, SheetRead, unread, read_into}
 use Rattle.sheets.specs.Words.{word, words, words_append, words_same, cap_word, every_one}
 use Rattle.sheets.specs.Laying.{laid_none, laid_more}
-use Rattle.sheets.specs.Sound.{same_lists}
+use Rattle.sheets.proofs.Sound.{same_lists}
 use Rattle.sheet_reading.specs.Onward.{onward, onward_end, onward_grows}
 use Rattle.sheet_reading.specs.Judged.{RowIs}
 use Rattle.sheet_reading.specs.Put.{Readable, RowPutIs}

@@ -12,7 +12,7 @@ use Rattle.sheet_reading.specs.Kinds.{plain_byte, quoted_byte}
 use Rattle.sheets.specs.Reader
 use Rattle.sheets.specs.declared.Place.TheVariants.{Start, Plain, Opened, Quoted, Closed, Number, Digits, NumberOpened, NumberQuoted, NumberClosed, Return, Wrong}
 use Rattle.sheets.specs.Reader.{next}
-use Rattle.sheets.specs.Complete.{marks, number_marks, number_next, digits_next, opened_next, number_quoted_next}
+use Rattle.sheets.proofs.Complete.{marks, number_marks, number_next, digits_next, opened_next, number_quoted_next}
 
 module _ (b : ℕ) where
   pub start_quote : b ≡ quote → next Start b ≡ Opened

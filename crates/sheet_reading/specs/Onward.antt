@@ -14,8 +14,8 @@ use Rattle.sheets.specs.declared.Place.TheVariants.{Start, Plain, Opened, Quoted
 use Rattle.sheets.specs.declared.Effect.TheVariants.{Letter, Figure}
 use Rattle.sheets.specs.declared.Ending.{Ending}
 use Rattle.sheets.specs.declared.Ending.TheVariants.{Within, BehindRows, BehindNumber}
-use Rattle.sheets.specs.Reader.{Reader, next, effect, said, told, valued, moved, fed, run, Said, nothing, lists, ending, ended_as, ended}
-use Rattle.sheets.specs.Complete.{standing, run_append, to_place, to_opened, to_closed, to_start, to_number, to_numberopened, to_numberclosed, to_return, in_next, quoted_next, digits_next, number_quoted_next}
+use Rattle.sheets.specs.Reader.{Reader, next, effect, said, told, valued, moved, fed, run, standing, Said, nothing, lists, ending, ended_as, ended}
+use Rattle.sheets.proofs.Complete.{run_append, to_place, to_opened, to_closed, to_start, to_number, to_numberopened, to_numberclosed, to_return, in_next, quoted_next, digits_next, number_quoted_next}
 use Rattle.sheet_reading.specs.Runs.{between, rest_between}
 
 unfoldable pub onward : List ℕ → Place → List ℕ → List ℕ → ℕ → ℕ → Said

@@ -20,12 +20,11 @@ use Rattle.sheets.specs.declared.Place.{Place}
 use Rattle.sheets.specs.declared.Place.TheVariants.{Start, Plain, Quoted, Closed, Number, NumberOpened, Wrong}
 use Rattle.sheets.specs.declared.Effect.TheVariants.{Letter}
 use Rattle.sheets.specs.declared.Ending.TheVariants.{Within}
-use Rattle.sheets.specs.Reader.{next, effect, nothing, lists, ending, ended_as}
-use Rattle.sheets.specs.Sound.{silent}
+use Rattle.sheets.specs.Reader.{next, effect, standing, nothing, lists, ending, ended_as}
+use Rattle.sheets.proofs.Sound.{silent}
 use Rattle.sheet_reading.specs.Runs.{between, between_none, between_more, length_between}
 use Rattle.sheet_reading.specs.Nexts
 use Rattle.sheet_reading.specs.Onward.{onward, onward_end, onward_wrong, onward_closed, onward_letter, onward_quoted, onward_number, onward_as, names_over, plain_stays, quoted_stays, plain_over, quoted_over, onward_grows}
-use Rattle.sheets.specs.Complete.{standing}
 use Rattle.sheets.specs.Laying.{splice_none, splice_one, splice_twice, length_splice}
 use Rattle.sheet_reading.specs.Judged.{capped, NumberIs, DigitsSaid, EndIs, opened_name, number_read, number_none, number_opened, quoted_number_read, quoted_number_empty, quoted_number_ends, quoted_number_stops}
 

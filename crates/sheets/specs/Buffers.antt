@@ -1,6 +1,6 @@
 -- Rows and the buffers in which they lie: names that pass the test of the writing call are rows, and rows are such names.
 -- Assumes nothing.
-use Rattle.std.specs.Prelude.{◌≡◌, refl, Bool, true, false, List, [], ◌∷◌, ◌++◌, ℕ, ◌+◌, ◌≤◌, nat_eq, length}
+use Rattle.std.specs.Prelude.{◌≡◌, refl, Bool, true, false, List, [], ◌∷◌, ◌++◌, ℕ, ◌+◌, ◌≤◌, ◌<◌, nat_eq, length}
 use Rattle.std.proofs.Common.{ap, ap₂, sym, ◌∙◌, arith, eqb→eq}
 use Rattle.lists.specs.Basics.{if◌then◌else◌, All, every}
 use Rattle.lists.specs.Tests.{and_left, and_right, and_both, T_true, true_T, →eqb}
@@ -12,6 +12,10 @@ use Rattle.sheets.specs.Bytes.{every_head, every_tail, every_more, every_none, n
 -- a name without a zero byte
 abbrev pub Named : Row → Type 0
 Named r = every non_zero r.name ≡ true
+
+-- A row that can be written: its name holds no zero byte, and its identifier is a word.
+abbrev pub Writable : Row → Type 0
+Writable r = Named r × (r.identifier < 4294967296)
 
 module _ (b : ℕ) (s : List ℕ) where
   -- the first byte ends the name, or is its first

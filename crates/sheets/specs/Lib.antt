@@ -3,11 +3,7 @@ pub mod Rows
 pub mod Reader
 pub mod Writer
 pub mod Calls
-pub mod Theorem
-pub mod Examples
 pub mod Bytes
-pub mod Complete
-pub mod Sound
 pub mod Decimal
 pub mod Buffers
 pub mod Laying

@@ -1,5 +1,5 @@
--- The reader: a byte at a time, from place to place. `decides` (Theorem.antt) says that it reads exactly the sheets of Grammar.antt. Assumes
--- nothing.
+-- The reader: a byte at a time, from place to place. `decides` (proofs/Theorem.antt) says that it reads exactly the sheets of Grammar.antt.
+-- Assumes nothing.
 use Rattle.std.specs.Prelude.{List, [], ◌∷◌, ◌++◌, ℕ, ◌+◌, ◌-◌, ◌*◌, nat_eq}
 use Rattle.lists.specs.Basics.{if◌then◌else◌}
 use Rattle.sheets.specs.declared.Place.{Place}
@@ -105,6 +105,10 @@ run m (b ∷ t) = run (fed m b) t
 
 unfoldable pub fresh : Reader
 fresh = record { place = Start; names = []; identifiers = []; value = 0 }
+
+-- A reader at a place, with what it has so far.
+abbrev pub standing : Place → List ℕ → List ℕ → ℕ → Reader
+standing p n i v = record { place = p; names = n; identifiers = i; value = v }
 
 -- What a text says: nothing, or names and identifiers.
 pub data Said : Type 0 where

@@ -39,7 +39,8 @@ use Rattle.atomicity.specs.TheoremC.{history_append, record_append}
 use Rattle.custody.specs.Lasting.{Some, some_kept}
 use Rattle.custody.specs.Custody.{Offer, Route, CardCall, step, offer, route, InWords, made, CardEvent, behind, card_history, words_after, cards_after, asks, steps, step_events, prices_then, prices_after, priced, Custody}
 use Rattle.custody.specs.Routes.{route_history, route_record, route_stays, behind_prices, route_words, route_append}
-use Rattle.custody.specs.Offers.{Fair, offer_fair}
+use Rattle.custody.specs.Offers.{Fair}
+use Rattle.custody.proofs.Offers.{offer_fair}
 use Rattle.custody.specs.Kept.{Ledger, Kept, to_marked, from_marked, book_form, moves, takes}
 
 -- A step without cards leaves the slice where it is refused.

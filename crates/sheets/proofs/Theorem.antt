@@ -1,6 +1,6 @@
 -- The claims about the office's sheet (document 02, 2026-03): the reader decides the grammar; what was written is read back as it was; and what was
 -- read can be written. Assumes nothing.
-use Rattle.std.specs.Prelude.{◌≡◌, refl, ◌⊎◌, true, ◌&&◌, List, [], ◌∷◌, ◌++◌, ℕ, ◌≤◌, ◌<◌, nat_le, length}
+use Rattle.std.specs.Prelude.{◌≡◌, refl, ◌⊎◌, true, ◌&&◌, List, [], ◌∷◌, ◌++◌, ℕ, ◌≤◌, nat_le, length}
 use Rattle.std.proofs.Common.{ap, ap₂, sym, ◌∙◌, subst, inl, inr, append_assoc, arith, le-leb, leb→le}
 use Rattle.lists.specs.Choice.{choose, on_yes}
 use Rattle.lists.specs.Basics.{All, every}
@@ -9,17 +9,13 @@ use Rattle.sheets.specs.Grammar.{Row, quote, comma, cr, lf, bare, doubled, Field
 use Rattle.sheets.specs.Reader.{Said, nothing, lists, reading}
 use Rattle.sheets.specs.Rows.{names_of, identifiers_of}
 use Rattle.sheets.specs.Bytes.{every_head, every_tail, digits_bare}
-use Rattle.sheets.specs.Complete.{complete}
-use Rattle.sheets.specs.Sound.{sound, silent}
+use Rattle.sheets.proofs.Complete.{complete}
+use Rattle.sheets.proofs.Sound.{sound, silent}
 use Rattle.sheets.specs.Writer.{name_text, decimal, row_text, write_sheet, behind_name, rows_in, names_for}
 use Rattle.sheets.specs.Decimal.{decimal_digits}
-use Rattle.sheets.specs.Buffers.{Named, names_back, ids_in, rows_named, names_fit, rows_back}
+use Rattle.sheets.specs.Buffers.{Named, Writable, names_back, ids_in, rows_named, names_fit, rows_back}
 use Rattle.sheets.specs.declared.Outcome.TheVariants.{Done}
 use Rattle.sheets.specs.Calls.{is_word, laid, as_words, read_into, read_call, sheet_text, write_call}
-
--- A row that can be written: its name holds no zero byte, and its identifier is a word.
-abbrev pub Writable : Row → Type 0
-Writable r = Named r × (r.identifier < 4294967296)
 
 name_written : (s : List ℕ) → Field (name_text s) s
 unfolding name_text

@@ -12,16 +12,11 @@ use Rattle.sheets.specs.Reader
 use Rattle.sheets.specs.declared.Place.{Place}
 use Rattle.sheets.specs.declared.Place.TheVariants.{Start, Plain, Opened, Quoted, Closed, Number, Digits, NumberOpened, NumberQuoted, NumberClosed, Return, Wrong}
 use Rattle.sheets.specs.Reader.{Reader, next, effect, said, told, valued, moved, fed, run, fresh, nothing, lists, ending, ended_as, ended, reading}
-use Rattle.sheets.specs.Rows.{names_of, identifiers_of}
+use Rattle.sheets.specs.Rows.{names_of, identifiers_of, Rest}
 use Rattle.sheets.specs.Bytes.{T_false, every_more, every_none, digits_bare, digits_single}
 
 -- What the text t from a place on says: x is added to the names, y to the identifiers.
--- From a row's start: a sheet.
-pub record Rest (t x y : List ℕ) : Type 0 where
-  pub rows : List Row
-  pub sheet : Sheet t rows
-  pub names : x ≡ names_of rows
-  pub identifiers : y ≡ identifiers_of rows
+-- From a row's start: a sheet (`Rest`, Rows.antt).
 
 -- Behind a number: the end, or CR LF and a sheet.
 abbrev Tail : List ℕ → List ℕ → List ℕ → Type 0

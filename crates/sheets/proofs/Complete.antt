@@ -9,12 +9,9 @@ use Rattle.sheets.specs.Grammar.{Row, quote, comma, cr, lf, bare, non_zero, is_d
 use Rattle.sheets.specs.Reader
 use Rattle.sheets.specs.declared.Place.{Place}
 use Rattle.sheets.specs.declared.Place.TheVariants.{Start, Plain, Opened, Quoted, Closed, Number, Digits, NumberOpened, NumberQuoted, NumberClosed, Return}
-use Rattle.sheets.specs.Reader.{Reader, next, effect, said, told, valued, moved, fed, run, fresh, lists, ending, ended_as, ended, reading}
+use Rattle.sheets.specs.Reader.{Reader, next, effect, said, told, valued, moved, fed, run, fresh, standing, lists, ending, ended_as, ended, reading}
 use Rattle.sheets.specs.Rows.{names_of, identifiers_of}
 use Rattle.sheets.specs.Bytes.{every_head, every_tail, not_zero, bare_quote, bare_comma, digit_quote}
-
-abbrev pub standing : Place → List ℕ → List ℕ → ℕ → Reader
-standing p n i v = record { place = p; names = n; identifiers = i; value = v }
 
 pub run_append : (m : Reader) (s t : List ℕ) → run m (s ++ t) ≡ run (run m s) t
 unfolding run

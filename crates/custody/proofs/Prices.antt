@@ -16,7 +16,8 @@ use Rattle.cardlayout.specs.Books.{Fits, Neat, read_fits, read_book_lem}
 use Rattle.cardlayout.specs.Sound.{neat}
 use Rattle.custody.specs.Custody.{Offer, CardCall, step, offer, route, made, card_history, cards_after, prices_then, prices_after, priced, Conserved}
 use Rattle.custody.specs.Routes.{behind_prices}
-use Rattle.custody.specs.Offers.{Fair, offer_fair}
+use Rattle.custody.specs.Offers.{Fair}
+use Rattle.custody.proofs.Offers.{offer_fair}
 use Rattle.custody.specs.Kept.{map_after}
 
 module _ (w k : List ℕ) where

@@ -7,7 +7,8 @@ use Rattle.sheets.specs.Rows.{names_of, identifiers_of}
 use Rattle.sheets.specs.Reader
 use Rattle.sheets.specs.Reader.{next, effect, said, valued, told, moved, fed, run, fresh, nothing, lists, ending, ended_as, ended, reading}
 use Rattle.sheets.specs.Writer.{name_text, last_digits, digit_count, decimal, row_text, write_sheet}
-use Rattle.sheets.specs.Theorem.{Writable, round_trip}
+use Rattle.sheets.specs.Buffers.{Writable}
+use Rattle.sheets.proofs.Theorem.{round_trip}
 
 -- "a""b",007 CR LF ,"4294967296" : two rows, the second without a name, its number too large (which is 20), the last CR LF missing.
 pub two_rows : reading (34 ∷ 97 ∷ 34 ∷ 34 ∷ 98 ∷ 34 ∷ 44 ∷ 48 ∷ 48 ∷ 55 ∷ 13 ∷ 10 ∷ 44 ∷ 34 ∷ 52 ∷ 50 ∷ 57 ∷ 52 ∷ 57 ∷ 54 ∷ 55 ∷ 50 ∷ 57 ∷ 54 ∷ 34 ∷ [])

@@ -1,0 +1,4 @@
+pub mod Offers
+pub mod Prices
+pub mod Theorem
+pub mod Instance
