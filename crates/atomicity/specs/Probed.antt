@@ -29,7 +29,7 @@ use Rattle.atomicity.specs.Preserved.{step_form, fresh_form}
 use Rattle.atomicity.specs.Demand3.{Call, present, called}
 use Rattle.atomicity.specs.Record.{fresh_gives}
 use Rattle.atomicity.specs.Engines.{call_is}
-use Rattle.atomicity.specs.Probes.{Probe, interval, ring, ring_by, text, outcomes, lines, printed, Passes, ask, join, leave, deliver, quiet, eight_ids, eight_calls, eight_outcomes, intervals, refusals, eight_lines, eight_texts, listing, starred, swapped, asks, named_outcomes, swapped_lines, swapped_texts, foundings, listing_input, listing_output}
+use Rattle.atomicity.specs.Probes.{Probe, interval, ring, ring_by, text, outcomes, lines, printed, Passes, quiet, eight_ids, eight_calls, eight_outcomes, intervals, refusals, eight_lines, eight_texts, listing, starred, swapped, asks, named_outcomes, swapped_lines, swapped_texts, foundings, listing_input, listing_output}
 
 -- The outcomes on the state: these are computed.
 said : Result → Outcome

@@ -1,5 +1,5 @@
 -- Who owns a machine, as the code finds it: by tables of identifiers and of each hub's reach. Assumes nothing.
-use Rattle.std.specs.Prelude.{◌≡◌, refl, ◌⊎◌, ◌≢◌, List, nat_le, nat_lt, nat_eq, length, replicate}
+use Rattle.std.specs.Prelude.{◌≡◌, refl, ◌⊎◌, List, nat_le, nat_lt, nat_eq, length, replicate}
 use Rattle.std.proofs.Common.{sym, ◌∙◌, ap, subst, inl, inr, mod-eq_of_lt, arith, leb→le, le→leb, eqb→eq}
 use mathlib.Core.Bool.{Bool, true, false, ◌&&◌}
 use Prim.Native.Nat.{ℕ, zero, suc, ◌+◌, ◌%◌, ◌≤◌, ◌<◌}

@@ -1,5 +1,5 @@
 -- What the tests of the marks say. Assumes nothing.
-use Rattle.std.specs.Prelude.{◌≡◌, refl, ◌⊎◌, ◌≢◌, List, [], ◌∷◌, ℕ, suc, ◌+◌, ◌-◌, ◌≤◌, ◌<◌, T, nat_le, nat_lt, nat_eq, length, get_or, set, take, drop}
+use Rattle.std.specs.Prelude.{◌≡◌, refl, ◌⊎◌, List, [], ◌∷◌, ℕ, suc, ◌+◌, ◌-◌, ◌≤◌, ◌<◌, T, nat_le, nat_lt, nat_eq, length, get_or, set, take, drop}
 use Rattle.std.proofs.Common.{sym, ◌∙◌, ap, inl, inr, arith, eqb→eq, T_not, length-drop, length-take, length-set, get_or-drop, get_or-take, get_or-set_same, get_or-set_other, take-add, drop-drop, drop_at, length-take-le}
 use mathlib.Core.Bool.{Bool, true, false, not, ◌&&◌}
 use Rattle.std.proofs.Math.Decide.{dec_lt, ℕ_discrete}

@@ -3,7 +3,7 @@ ghost use Rattle.console.specs.Arrivals.{Arrived};
 
 use crate::retries::may_retry;
 use crate::telling::tell_failure;
-use libc::STDIN_FILENO;
+use std::io::{Error, Read};
 
 // What a read brought: so many bytes, at least one; the end of the input; or nothing more, since it failed.
 #[derive(Clone, Copy)]
@@ -14,30 +14,29 @@ pub enum Arrival {
 }
 
 // Whether a read that failed is made again; where it is not, the failure is told.
-fn goes_on(name: &[u8]) -> bool {
-    if may_retry() {
+fn goes_on(rt: &HostRuntime, name: &[u8], error: Error) -> bool {
+    if may_retry(error) {
         return true;
     }
-    tell_failure(name, b"standard input");
+    tell_failure(rt, name, b"standard input", error);
     false
 }
 
 // Reads once into `input`, which has room for at least a byte, and waits until something is there. A failure is told on standard error.
 // A proved loop has to end, and nothing says that the waiting does. So the loop counts its turns down, from a number that no run uses up.
-pub fn receive(name: &[u8], input: &mut [u8]) -> Arrival
+pub fn receive(rt: &HostRuntime, name: &[u8], input: &mut [u8]) -> Arrival
     ensures { Arrived result input.new }
 {
     let mut turns = 18446744073709551615u64;
     while turns > 0 {
-        let got = libc::read(STDIN_FILENO, input);
-        if got == 0 {
-            return Arrival::End;
-        }
-        if got > 0 {
-            return Arrival::Bytes(io::count(got, input));
-        }
-        if !goes_on(name) {
-            return Arrival::Failed;
+        match rt.stdin().read(input) {
+            Ok(0) => return Arrival::End,
+            Ok(got) => return Arrival::Bytes(got),
+            Err(error) => {
+                if !goes_on(rt, name, error) {
+                    return Arrival::Failed;
+                }
+            }
         }
         turns -= 1;
     }

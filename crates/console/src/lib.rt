@@ -4,6 +4,7 @@
 mod arriving;
 mod gathering;
 mod leaving;
+mod reasons;
 mod retries;
 mod telling;
 

@@ -1,6 +1,7 @@
 // Reads the office sheet from standard input, and prints the founding frame that `ringrun` reads, or EE and the number of the refusal. The sheet may
 // arrive in any pieces and have any length; what is done with a piece is proved in hubs.rt, and what is printed in frame.rt.
 #![tactic(auto)]
+
 mod frame;
 mod hubs;
 mod places;
@@ -33,11 +34,11 @@ struct Turn {
 }
 
 // One read.
-fn take_some(h: Hubs, identifiers: &mut [u32], input: &mut [u8]) -> Turn
+fn take_some(rt: &HostRuntime, h: Hubs, identifiers: &mut [u32], input: &mut [u8]) -> Turn
     requires { (h.value ≤ 4294967296) × (length identifiers.old ≡ 64) }
     ensures { (result.hubs.value ≤ 4294967296) × Taken result.arrival h identifiers.old input.new result.hubs identifiers.new }
 {
-    let arrival = receive(b"hubsheet", input);
+    let arrival = receive(rt, b"hubsheet", input);
     match arrival {
         Arrival::Bytes(n) => {
             let hubs = feed(h, &input[..n], identifiers);
@@ -49,7 +50,7 @@ fn take_some(h: Hubs, identifiers: &mut [u32], input: &mut [u8]) -> Turn
 }
 
 // Whether the run goes on. At the end of the input the line is printed; where a read failed, which is told, nothing is.
-fn goes_on(t: Turn, identifiers: &mut [u32], out: &mut [u8]) -> bool
+fn goes_on(rt: &HostRuntime, t: Turn, identifiers: &mut [u32], out: &mut [u8]) -> bool
     requires { (length identifiers.old ≡ 64) × (516 ≤ length out.old) }
 {
     let arrival = t.arrival;
@@ -58,7 +59,7 @@ fn goes_on(t: Turn, identifiers: &mut [u32], out: &mut [u8]) -> bool
         Arrival::Bytes(_) => true,
         Arrival::End => {
             let count = put_line(h, identifiers, out);
-            send(b"hubsheet", &out[..count]);
+            send(rt, b"hubsheet", &out[..count]);
             false
         }
         Arrival::Failed => false,
@@ -66,14 +67,14 @@ fn goes_on(t: Turn, identifiers: &mut [u32], out: &mut [u8]) -> bool
 }
 
 // A proved loop has to end, and nothing says that the input does. So the loop counts its turns down, from a number that no run uses up.
-fn run(identifiers: &mut [u32], input: &mut [u8], out: &mut [u8])
+fn run(rt: &HostRuntime, identifiers: &mut [u32], input: &mut [u8], out: &mut [u8])
     requires { (length identifiers.old ≡ 64) × (516 ≤ length out.old) }
 {
     let mut turns = 18446744073709551615u64;
     let mut h = begun();
     while turns > 0 {
-        let t = take_some(h, identifiers, input);
-        if !goes_on(t, identifiers, out) {
+        let t = take_some(rt, h, identifiers, input);
+        if !goes_on(rt, t, identifiers, out) {
             return;
         }
         h = t.hubs;
@@ -81,9 +82,9 @@ fn run(identifiers: &mut [u32], input: &mut [u8], out: &mut [u8])
     }
 }
 
-fn main() {
+fn main(rt: HostRuntime) {
     let mut identifiers = [0u32; 64];
     let mut input = io::large_buffer();
     let mut out = [0u8; 516];
-    run(&mut identifiers, &mut input, &mut out);
+    run(&rt, &mut identifiers, &mut input, &mut out);
 }

@@ -1,6 +1,7 @@
 // A ring, line by line, in words: frames as `ringrun` reads them, and lines that ask for rows, rolls, waiting messages and counts, which neither
 // `ringrun` nor the C calls show (docs/INSPECT.md). What it prints is compared with the model's (tests/inspect, tests/differential).
 #![tactic(auto)]
+
 mod bounds;
 mod calls;
 mod inquiries;
@@ -27,24 +28,38 @@ fn stopped(t: Turn) -> Turn {
 }
 
 // One read, and the answers to every line that it ends. At the end of the input the last line may lack its LF.
-fn take_some(w: &mut [u32], line: &mut [u8], out: &mut [u8], t: Turn, input: &mut [u8]) -> Turn {
-    let arrival = receive(b"inspect", input);
+fn take_some(
+    rt: &HostRuntime,
+    w: &mut [u32],
+    line: &mut [u8],
+    out: &mut [u8],
+    t: Turn,
+    input: &mut [u8],
+) -> Turn {
+    let arrival = receive(rt, b"inspect", input);
     match arrival {
-        Arrival::Bytes(n) => take_bytes(w, line, out, t, &input[..n]),
-        Arrival::End => stopped(finish(w, line, out, t)),
+        Arrival::Bytes(n) => take_bytes(rt, w, line, out, t, &input[..n]),
+        Arrival::End => stopped(finish(rt, w, line, out, t)),
         Arrival::Failed => {
-            drop_line(b"inspect", t.held);
+            drop_line(rt, b"inspect", t.held);
             stopped(t)
         }
     }
 }
 
 // A proved loop has to end, and nothing says that the input does. So the loop counts its turns down, from a number that no run uses up.
-fn run(w: &mut [u32], line: &mut [u8], out: &mut [u8], t: Turn, input: &mut [u8]) {
+fn run(
+    rt: &HostRuntime,
+    w: &mut [u32],
+    line: &mut [u8],
+    out: &mut [u8],
+    t: Turn,
+    input: &mut [u8],
+) {
     let mut turns = 18446744073709551615u64;
     let mut turn = t;
     while turns > 0 {
-        turn = take_some(w, line, out, turn, input);
+        turn = take_some(rt, w, line, out, turn, input);
         if !turn.goes_on {
             return;
         }
@@ -77,10 +92,10 @@ fn begun() -> Turn {
 }
 
 // One byte more than a frame can have; more bytes than the longest answer, that of 256 waiting questions.
-fn main() {
+fn main(rt: HostRuntime) {
     let mut record = [0u32; KEPT_WORDS];
     let mut line = [0u8; 515];
     let mut out = [0u8; 32768];
     let mut input = [0u8; 8192];
-    run(&mut record, &mut line, &mut out, begun(), &mut input);
+    run(&rt, &mut record, &mut line, &mut out, begun(), &mut input);
 }

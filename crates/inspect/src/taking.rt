@@ -16,7 +16,14 @@ pub struct Turn {
     pub goes_on: bool,
 }
 
-fn answer_line(w: &mut [u32], line: &[u8], out: &mut [u8], s: Session, at: usize) -> Turn
+fn answer_line(
+    rt: &HostRuntime,
+    w: &mut [u32],
+    line: &[u8],
+    out: &mut [u8],
+    s: Session,
+    at: usize,
+) -> Turn
     ensures { result.at ≡ at }
 {
     let a = answer(w, line, s, out);
@@ -26,11 +33,18 @@ fn answer_line(w: &mut [u32], line: &[u8], out: &mut [u8], s: Session, at: usize
         session,
         held: 0,
         at,
-        goes_on: send(b"inspect", &out[..end]),
+        goes_on: send(rt, b"inspect", &out[..end]),
     }
 }
 
-fn take_line(w: &mut [u32], line: &mut [u8], out: &mut [u8], t: Turn, input: &[u8]) -> Turn
+fn take_line(
+    rt: &HostRuntime,
+    w: &mut [u32],
+    line: &mut [u8],
+    out: &mut [u8],
+    t: Turn,
+    input: &[u8],
+) -> Turn
     requires { t.at < length input.now }
     ensures { (t.at < result.at) × (result.at ≤ length input.now) }
 {
@@ -39,7 +53,7 @@ fn take_line(w: &mut [u32], line: &mut [u8], out: &mut [u8], t: Turn, input: &[u
     let g = gather(line, held, input, t.at);
     let begun = g.held;
     if g.ended {
-        return answer_line(w, &line[..begun], out, session, g.at);
+        return answer_line(rt, w, &line[..begun], out, session, g.at);
     }
     Turn {
         session,
@@ -50,7 +64,14 @@ fn take_line(w: &mut [u32], line: &mut [u8], out: &mut [u8], t: Turn, input: &[u
 }
 
 // Once an answer could not be written no further line is answered.
-pub fn take_bytes(w: &mut [u32], line: &mut [u8], out: &mut [u8], t: Turn, input: &[u8]) -> Turn {
+pub fn take_bytes(
+    rt: &HostRuntime,
+    w: &mut [u32],
+    line: &mut [u8],
+    out: &mut [u8],
+    t: Turn,
+    input: &[u8],
+) -> Turn {
     let session = t.session;
     let mut turn = Turn {
         session,
@@ -59,7 +80,7 @@ pub fn take_bytes(w: &mut [u32], line: &mut [u8], out: &mut [u8], t: Turn, input
         goes_on: true,
     };
     while turn.at < input.len() {
-        turn = take_line(w, line, out, turn, input);
+        turn = take_line(rt, w, line, out, turn, input);
         if !turn.goes_on {
             return turn;
         }
@@ -68,11 +89,11 @@ pub fn take_bytes(w: &mut [u32], line: &mut [u8], out: &mut [u8], t: Turn, input
 }
 
 // The end of the input: the last line may lack its LF, and where nothing has begun there is none.
-pub fn finish(w: &mut [u32], line: &[u8], out: &mut [u8], t: Turn) -> Turn {
+pub fn finish(rt: &HostRuntime, w: &mut [u32], line: &[u8], out: &mut [u8], t: Turn) -> Turn {
     let session = t.session;
     let held = least(t.held, line.len());
     if held == 0 {
         return t;
     }
-    answer_line(w, &line[..held], out, session, 0)
+    answer_line(rt, w, &line[..held], out, session, 0)
 }

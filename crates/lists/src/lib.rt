@@ -1,6 +1,7 @@
 // Tests put together without a branch at the caller, so that loops over them have none either. (The laws of tests, lists and
 // counting that the crates above cite are in specs/.)
 #![tactic(auto)]
+
 ghost use Rattle.std.specs.Prelude.{◌≡◌, ◌&&◌, ◌||◌, not};
 ghost use Rattle.lists.specs.Basics.{if◌then◌else◌};
 

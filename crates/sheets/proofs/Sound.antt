@@ -7,7 +7,7 @@ use mathlib.Core.List.{List, [], ◌∷◌, ◌++◌, append_assoc, append-nil}
 use Rattle.lists.specs.Basics.{if◌then◌else◌, every}
 use Rattle.lists.specs.Choice.{choose}
 use Rattle.lists.specs.Tests.{T_true}
-use Rattle.sheets.specs.Grammar.{Row, quote, comma, cr, lf, bare, non_zero, is_digit, doubled, worth, Field, plain, quoted, RowText, row, Sheet, empty, last, more}
+use Rattle.sheets.specs.Grammar.{quote, comma, cr, lf, bare, non_zero, is_digit, doubled, worth, Field, plain, quoted, RowText, row, Sheet, empty, last, more}
 use Rattle.sheets.specs.Reader
 use Rattle.sheets.specs.declared.Place.{Place}
 use Rattle.sheets.specs.declared.Place.TheVariants.{Start, Plain, Opened, Quoted, Closed, Number, Digits, NumberOpened, NumberQuoted, NumberClosed, Return, Wrong}

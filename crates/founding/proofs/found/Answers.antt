@@ -2,11 +2,10 @@
 use mathlib.Core.Path.{sym, ◌∙◌}
 use native.Mathlib.Omega.{arith}
 use lib.ListN.{length}
-use borrow.Author.Tests.{eq-eqb, ne_eqb, lt-leb, le-leb, lt-ltb, le-ltb, not-true, not-false}
+use borrow.Author.Tests.{eq-eqb, ne_eqb, lt-leb, le-leb, lt-ltb, le-ltb}
 use Rattle.lists.specs.Basics.{if◌then◌else◌, require}
 use Rattle.protocol.specs.Calls.{long, written, fresh_by_call}
 use Rattle.founding.specs.Laws.{differ, some_few}
-use borrow.Author.Rules.{rules}
 use Rattle.founding.proofs.found.Goals as goal
 
 pub returns-then-w-lt-RECORD_WORDS : goal.returns-then-w-lt-RECORD_WORDS

@@ -2,7 +2,6 @@
 use borrow.Author.Tests.{eq-eqb, ne_eqb}
 use Rattle.lists.specs.Basics.{if◌then◌else◌}
 use Rattle.batch_tally.specs.Places.{count_at}
-use borrow.Author.Rules.{rules}
 use Rattle.batch_tally.proofs.counts.count_at.Goals as goal
 
 pub returns-then-outcomes-at-eq0 : goal.returns-then-outcomes-at-eq0

@@ -1,6 +1,5 @@
 -- `first_come`: by cases; a slot that keeps its word is written with it. Assumes nothing.
 use mathlib.Core.Path.{refl, sym}
-use borrow.Author.Rules.{rules}
 use borrow.Author.Tests.{eq-eqb, ne_eqb}
 use Rattle.lists.specs.Basics.{if◌then◌else◌}
 use Rattle.card_checks.specs.Digits.{set_own}

@@ -1,7 +1,6 @@
 -- `bad_bits`: the failures of the words, merged. Assumes nothing.
 use borrow.Author.Rules.{rules}
 use mathlib.Core.Path.{◌≡◌, sym, ◌∙◌, ap}
-use Prim.Native.Nat.{◌≤◌, ◌-◌}
 use native.Mathlib.Omega.{arith}
 use Rattle.std.specs.Prelude.{nat_lt}
 use lib.ListN.{length, get_or}

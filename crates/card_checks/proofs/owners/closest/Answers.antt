@@ -1,7 +1,6 @@
 -- `closest`: the least of the distances so far. Assumes nothing.
 use borrow.Author.Rules.{rules}
 use mathlib.Core.Path.{◌≡◌, sym, ◌∙◌, ap}
-use Prim.Native.Nat.{◌≤◌, ◌-◌}
 use native.Mathlib.Omega.{arith}
 use Rattle.std.specs.Prelude.{nat_le, nat_eq}
 use lib.ListN.{length, get_or}

@@ -5,7 +5,6 @@ use Rattle.lists.specs.Basics.{if◌then◌else◌}
 use Rattle.clockwise.specs.Laws.{dist_pos}
 use Rattle.protocol.specs.Record.{round}
 use Rattle.cardlayout.specs.Reach.{gap}
-use borrow.Author.Rules.{rules}
 use Rattle.card_checks.proofs.owners.gap.Goals as goal
 
 pub returns-then-a-b : goal.returns-then-a-b

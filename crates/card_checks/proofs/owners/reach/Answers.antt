@@ -1,12 +1,11 @@
 -- `reach`: the least of the gaps so far. Assumes nothing.
 use borrow.Author.Rules.{rules}
 use mathlib.Core.Path.{◌≡◌, sym, ◌∙◌, ap}
-use Prim.Native.Nat.{◌≤◌, ◌-◌}
 use native.Mathlib.Omega.{arith}
 use Rattle.std.specs.Prelude.{nat_le, nat_eq}
 use lib.ListN.{length, get_or}
 use Rattle.lists.specs.Basics.{if◌then◌else◌}
-use Rattle.cardlayout.specs.Reach.{top, gap, gap_to, reach, least, least_none, least_more}
+use Rattle.cardlayout.specs.Reach.{top, gap_to, reach, least, least_none, least_more}
 use Rattle.card_checks.proofs.owners.reach.Goals as goal
 
 pub loop-m-init : goal.loop-m-init

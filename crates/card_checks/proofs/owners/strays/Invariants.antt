@@ -1,11 +1,9 @@
 -- `strays`: the failures of the cards so far, merged. Assumes nothing.
-use borrow.Author.Rules.{rules}
-use mathlib.Core.Path.{◌≡◌, sym, ◌∙◌, ap}
+use mathlib.Core.Path.{◌≡◌}
 use Prim.Native.Nat.{◌+◌, ◌≤◌, ◌-◌}
-use native.Mathlib.Omega.{arith}
 use lib.ListN.{get_or}
 use Rattle.lists.specs.Basics.{if◌then◌else◌}
-use Rattle.lists.specs.Merge.{merged, merged_none, merged_more}
+use Rattle.lists.specs.Merge.{merged}
 use Rattle.protocol.specs.Cards.{card_start}
 use Rattle.card_checks.specs.Homes.{at_home}
 use Rattle.card_checks.proofs.owners.strays.Given as goal

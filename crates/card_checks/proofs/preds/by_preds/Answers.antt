@@ -1,11 +1,11 @@
 -- `by_preds`: of the first h nodes, the gaps, what they add up to, and whether a member's pred is none. Assumes nothing.
 use borrow.Author.Rules.{rules}
 use mathlib.Core.Path.{◌≡◌, refl, sym, ◌∙◌, ap, ap₂}
-use Prim.Native.Nat.{ℕ, ◌+◌, ◌*◌, ◌-◌, ◌≤◌, ◌<◌}
+use Prim.Native.Nat.{◌+◌}
 use native.Mathlib.Omega.{arith}
 use Rattle.std.specs.Prelude.{nat_eq}
 use lib.Dec.{eqb→eq}
-use lib.ListN.{length, get_or, length-set}
+use lib.ListN.{get_or, length-set}
 use Rattle.lists.specs.Basics.{if◌then◌else◌}
 use Rattle.lists.specs.Members.{filled}
 use Rattle.lists.specs.Merge.{merged, merged_none, merged_more}

@@ -1,5 +1,4 @@
 -- `grown`: at each return the tests on the way decide the definition. Assumes nothing.
-use native.Mathlib.Omega.{arith}
 use borrow.Author.Tests.{eq-eqb, ne_eqb, lt-ltb, le-ltb}
 use Rattle.lists.specs.Basics.{if◌then◌else◌}
 use Rattle.protocol.specs.Kinds.{grown}

@@ -3,7 +3,6 @@ use mathlib.Core.Path.{refl}
 use Rattle.lists.specs.Basics.{if◌then◌else◌, table}
 use Rattle.sheets.specs.Grammar.{bare, non_zero}
 use Rattle.sheet_reading.specs.Kinds.{plain_byte, quoted_byte, kind_of}
-use borrow.Author.Rules.{rules}
 use Rattle.sheet_reading.proofs.bytes.kinds.Goals as goal
 
 pub returns : goal.returns

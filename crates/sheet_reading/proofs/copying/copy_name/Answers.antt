@@ -4,7 +4,6 @@ use native.Mathlib.Omega.{arith}
 use lib.ListN.{length, length-set}
 use Rattle.lists.specs.Basics.{if◌then◌else◌}
 use Rattle.sheet_reading.specs.Put.{place_for, test_for, plain_copies, unquoted_name, quoted_name, name_opened, zero_room, plain_put}
-use borrow.Author.Rules.{rules}
 use Rattle.sheet_reading.proofs.copying.copy_name.Goals as goal
 
 pub copy_quoted-requires : goal.copy_quoted-requires

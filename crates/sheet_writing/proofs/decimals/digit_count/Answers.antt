@@ -2,8 +2,6 @@
 use Rattle.sheets.specs.Writer.{digit_count}
 use Rattle.lists.specs.Basics.{if◌then◌else◌}
 use borrow.Author.Tests.{lt-ltb, le-ltb}
-use Rattle.sheet_writing.proofs.decimals.digit_count.Reads as reads
-use Rattle.sheet_writing.proofs.decimals.digit_count.Lts as lts
 use Rattle.sheet_writing.proofs.decimals.digit_count.Goals as goal
 
 pub returns-then-v-lt10 : goal.returns-then-v-lt10

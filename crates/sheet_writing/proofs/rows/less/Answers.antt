@@ -2,9 +2,6 @@
 use Rattle.sheet_writing.specs.Scanning.{less_by}
 use Rattle.lists.specs.Basics.{if◌then◌else◌}
 use borrow.Author.Tests.{lt-ltb, le-ltb}
-use borrow.Author.Rules.{rules}
-use Rattle.sheet_writing.proofs.rows.less.Reads as reads
-use Rattle.sheet_writing.proofs.rows.less.Lts as lts
 use Rattle.sheet_writing.proofs.rows.less.Goals as goal
 
 -- src/rows.rt:26:17

@@ -7,7 +7,6 @@ use Rattle.lists.specs.Basics.{if◌then◌else◌}
 use Rattle.lists.specs.Splice.{splice}
 use Rattle.sheets.specs.Grammar.{quote, doubled}
 use Rattle.sheets.specs.Laying.{splice_twice}
-use borrow.Author.Rules.{rules}
 use Rattle.sheet_writing.proofs.rows.put_twice.Goals as goal
 
 pub put_byte-next-requires : goal.put_byte-next-requires

@@ -1,7 +1,5 @@
 -- src/scanning.rt:18:9
 use Rattle.lists.specs.Basics.{if◌then◌else◌}
-use Rattle.sheet_writing.proofs.scanning.count_if.Reads as reads
-use Rattle.sheet_writing.proofs.scanning.count_if.Lts as lts
 use Rattle.sheet_writing.proofs.scanning.count_if.Goals as goal
 
 pub returns-then-test : goal.returns-then-test

@@ -3,7 +3,6 @@ use borrow.Author.Tests.{ne_eqb}
 use Rattle.lists.specs.Basics.{if◌then◌else◌}
 use Rattle.protocol.specs.Step.{step}
 use Rattle.protocol.specs.Calls.{written}
-use borrow.Author.Rules.{rules}
 use Rattle.steps.proofs.perform.run.Goals as goal
 
 pub returns-in-0 : goal.returns-in-0

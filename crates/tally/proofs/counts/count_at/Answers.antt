@@ -1,7 +1,6 @@
 -- `count_at`: the test decides the choice, and `raise` gives the count raised. Assumes nothing.
 use borrow.Author.Tests.{eq-eqb, ne_eqb}
 use Rattle.lists.specs.Basics.{if◌then◌else◌}
-use borrow.Author.Rules.{rules}
 use Rattle.tally.proofs.counts.count_at.Goals as goal
 
 pub returns-then-k-j : goal.returns-then-k-j

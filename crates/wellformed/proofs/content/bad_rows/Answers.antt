@@ -1,9 +1,8 @@
 -- `bad_rows`: the merged failures of the rows before i, and their identifiers copied out. Assumes nothing.
 use borrow.Author.Rules.{rules}
 use mathlib.Core.Path.{◌≡◌, refl, sym, ◌∙◌, ap}
-use Prim.Native.Nat.{ℕ, ◌≤◌, ◌<◌, ◌-◌}
 use native.Mathlib.Omega.{arith}
-use lib.ListN.{length, get_or, length-set}
+use lib.ListN.{get_or, length-set}
 use Rattle.lists.specs.Basics.{if◌then◌else◌}
 use Rattle.lists.specs.Members.{filled}
 use Rattle.lists.specs.Merge.{merged, merged_none, merged_more}

@@ -1,12 +1,9 @@
 -- `bad_rows`: the merged failures of the rows before i, and their identifiers copied out. Assumes nothing.
-use borrow.Author.Rules.{rules}
-use mathlib.Core.Path.{◌≡◌, refl, sym, ◌∙◌, ap}
+use mathlib.Core.Path.{◌≡◌}
 use Prim.Native.Nat.{ℕ, ◌≤◌, ◌<◌, ◌-◌}
-use native.Mathlib.Omega.{arith}
-use lib.ListN.{length, get_or, length-set}
+use lib.ListN.{length, get_or}
 use Rattle.lists.specs.Basics.{if◌then◌else◌}
-use Rattle.lists.specs.Members.{filled}
-use Rattle.lists.specs.Merge.{merged, merged_none, merged_more}
+use Rattle.lists.specs.Merge.{merged}
 use Rattle.protocol.specs.Record.{row_start, row_from}
 use Rattle.protocol.specs.WellFormed.{row_ok}
 use Rattle.wellformed.proofs.content.bad_rows.Given as goal

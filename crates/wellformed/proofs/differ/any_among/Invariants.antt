@@ -1,11 +1,9 @@
 -- `any_among`: the failures of the first i identifiers against four others, merged. Assumes nothing.
-use borrow.Author.Rules.{rules}
-use mathlib.Core.Path.{◌≡◌, sym, ◌∙◌, ap}
+use mathlib.Core.Path.{◌≡◌}
 use Prim.Native.Nat.{◌≤◌, ◌-◌}
-use native.Mathlib.Omega.{arith}
 use lib.ListN.{get_or}
 use Rattle.lists.specs.Basics.{if◌then◌else◌}
-use Rattle.lists.specs.Merge.{merged, merged_none, merged_more, unlike_all}
+use Rattle.lists.specs.Merge.{merged, unlike_all}
 use Rattle.wellformed.proofs.differ.any_among.Given as goal
 
 abbrev pub invariant-loop-j : goal.invariant-loop-j

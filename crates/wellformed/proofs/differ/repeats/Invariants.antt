@@ -1,11 +1,9 @@
 -- `repeats`: the failures of one identifier against the first i, merged. Assumes nothing.
-use borrow.Author.Rules.{rules}
-use mathlib.Core.Path.{◌≡◌, sym, ◌∙◌, ap}
+use mathlib.Core.Path.{◌≡◌}
 use Prim.Native.Nat.{◌≤◌, ◌-◌}
-use native.Mathlib.Omega.{arith}
 use lib.ListN.{get_or}
 use Rattle.lists.specs.Basics.{if◌then◌else◌}
-use Rattle.lists.specs.Merge.{merged, merged_none, merged_more, unlike}
+use Rattle.lists.specs.Merge.{merged, unlike}
 use Rattle.wellformed.proofs.differ.repeats.Given as goal
 
 abbrev pub invariant-loop-j : goal.invariant-loop-j

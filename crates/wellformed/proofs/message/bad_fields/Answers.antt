@@ -3,7 +3,6 @@ use mathlib.Core.Path.{◌∙◌, ap}
 use mathlib.Core.Bool.{not}
 use Rattle.lists.specs.Basics.{if◌then◌else◌}
 use Rattle.wellformed.specs.Laws.{fields_law}
-use borrow.Author.Rules.{rules}
 use Rattle.wellformed.proofs.message.bad_fields.Goals as goal
 
 pub returns : goal.returns
