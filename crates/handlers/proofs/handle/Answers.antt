@@ -1,5 +1,6 @@
 -- `handle`: the kind decides the definition, and the handler's own equation is the rest. Assumes nothing.
 use borrow.Author.Tests.{ne_eqb}
+use borrow.Author.Rules.{rules}
 use Rattle.lists.specs.Basics.{when◌then◌else◌}
 use Rattle.protocol.specs.Kinds.{handle}
 use Rattle.handlers.proofs.handle.Goals as goal
@@ -38,11 +39,11 @@ returns-in-8 c = simp (c.leave_req.ensures, c.in-8.is)
 
 pub returns-in-9 : goal.returns-in-9
 unfolding handle when◌then◌else◌
-returns-in-9 c = simp (c.leave_retry.ensures, c.in-9.is)
+returns-in-9 c = search rules
 
 pub returns-in-10 : goal.returns-in-10
 unfolding handle when◌then◌else◌
-returns-in-10 c = simp (c.leave_grant.ensures, c.in-10.is)
+returns-in-10 c = search rules
 
 pub returns-in-11 : goal.returns-in-11
 unfolding handle when◌then◌else◌
