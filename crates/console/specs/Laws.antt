@@ -1,6 +1,6 @@
 -- A line is gathered byte by byte, and its bytes stand at the front of the places that are lent for it. Assumes nothing.
-use Rattle.std.specs.Prelude.{◌≡◌, refl, true, false, List, [], ◌∷◌, ◌++◌, ℕ, ◌+◌, ◌≤◌, ◌<◌, take, drop, set, get_or, nat_eq}
-use Rattle.std.proofs.Common.{ap, sym, ◌∙◌, add-one, length-append, length-take-le}
+use Rattle.std.specs.Prelude.{◌≡◌, true, false, List, [], ◌∷◌, ◌++◌, ℕ, ◌+◌, ◌≤◌, ◌<◌, take, drop, set, get_or}
+use Rattle.std.proofs.Common.{sym, ◌∙◌, add-one, length-append, length-take-le}
 use native.Mathlib.Omega.{arith}
 use Rattle.std.proofs.Math.ListN.{length, length-take}
 use Rattle.std.proofs.Math.Seq.{take_all, take-suc-set, drop-cons, drop-length}

@@ -1,5 +1,5 @@
 -- The edge cases of an input, computed. Assumes nothing.
-use Rattle.std.specs.Prelude.{◌≡◌, refl, ◌&&◌, ◌||◌, List, [], ◌∷◌, ◌++◌, ℕ, replicate}
+use Rattle.std.specs.Prelude.{◌≡◌, refl, List, [], ◌∷◌, ◌++◌, ℕ, replicate}
 use Rattle.lists.specs.Basics.{when◌then◌else◌, require, every}
 use Rattle.protocol.specs.Record.{record_size}
 use Rattle.protocol.specs.Frames.{is_digit, digit_value, read2, read4, read8, founding, command, frame, digit_of, print2, refusal_text, line, frame_call, line_call}

@@ -5,7 +5,6 @@ use Prim.Native.Nat.{◌*◌, ◌/◌}
 use native.Mathlib.Omega.{arith}
 use lib.ListN.{length, replicate}
 use lib.Seq.{length-take-le}
-use borrow.Author.Tests.{not-true, not-false}
 use Rattle.lists.specs.Basics.{All}
 use Rattle.lists.specs.Members.{all_at}
 use Rattle.lists.specs.Blocks.{length_table}
@@ -15,7 +14,6 @@ use Rattle.protocol.specs.Bytes.{Byte}
 use Rattle.layout.specs.Form.{Valid}
 use Rattle.word_bytes.specs.Carry.{word_at, first_words}
 use Rattle.batch_bytes.specs.Results.{loaded_valid, bytes_1, bytes_2, bytes_25, bytes_26, bytes_rest}
-use borrow.Author.Rules.{rules}
 use Rattle.batch_bytes.proofs.ask.Goals as goal
 
 pub returns-then-words-lt-RECORD_BYTES : goal.returns-then-words-lt-RECORD_BYTES

@@ -2,8 +2,6 @@
 use mathlib.Core.Path.{◌∙◌}
 use native.Mathlib.Omega.{arith}
 use Rattle.record_bytes.specs.Results.{owner_17, owner_1, owner_rest}
-use borrow.Author.Rules.{rules}
-use Rattle.record_bytes.proofs.owner.Lts as lts
 use Rattle.record_bytes.proofs.owner.Goals as goal
 
 pub returns-then-out-lt4 : goal.returns-then-out-lt4

@@ -6,7 +6,6 @@ use Rattle.lists.specs.Members.{all_at}
 use Rattle.protocol.specs.Bytes.{Byte}
 use Rattle.record_bytes.specs.Results.{step_17, step_1, step_rest}
 use borrow.Author.Rules.{rules}
-use Rattle.record_bytes.proofs.step.Lts as lts
 use Rattle.record_bytes.proofs.step.Goals as goal
 
 pub returns-then-out-lt20 : goal.returns-then-out-lt20

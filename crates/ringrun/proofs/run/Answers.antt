@@ -1,8 +1,6 @@
 -- `run`: turn by turn what is held lies within the line; it ends when its turns are used up. Assumes nothing.
 use borrow.Author.Rules.{rules}
-use mathlib.Core.Path.{◌≡◌, refl, ◌∙◌}
-use Prim.Native.Nat.{◌≤◌}
-use lib.ListN.{length}
+use mathlib.Core.Path.{refl, ◌∙◌}
 use Rattle.ringrun.proofs.run.Goals as goal
 
 pub loop-turns-init : goal.loop-turns-init

@@ -1,6 +1,5 @@
 -- `run`: turn by turn what is held lies within the line; it ends when its turns are used up. Assumes nothing.
-use borrow.Author.Rules.{rules}
-use mathlib.Core.Path.{◌≡◌, refl, ◌∙◌}
+use mathlib.Core.Path.{◌≡◌}
 use Prim.Native.Nat.{◌≤◌}
 use lib.ListN.{length}
 use Rattle.ringrun.proofs.run.Given as goal

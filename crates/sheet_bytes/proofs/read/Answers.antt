@@ -1,7 +1,6 @@
 -- `read`: 17, or what the call tells. Assumes nothing.
 use native.Mathlib.Omega.{arith}
 use Rattle.sheet_bytes.specs.Told.{told_read, read_17, read_told}
-use borrow.Author.Rules.{rules}
 use Rattle.sheet_bytes.proofs.read.Goals as goal
 
 pub returns-then-counts-lt-COUNTS_BYTES : goal.returns-then-counts-lt-COUNTS_BYTES

@@ -1,7 +1,6 @@
 -- `write`: 17, or what the call tells. Assumes nothing.
 use native.Mathlib.Omega.{arith}
 use Rattle.sheet_bytes.specs.Told.{told_write, write_17, write_told}
-use borrow.Author.Rules.{rules}
 use Rattle.sheet_bytes.proofs.write.Goals as goal
 
 pub returns-then-counts-lt-COUNTS_BYTES : goal.returns-then-counts-lt-COUNTS_BYTES

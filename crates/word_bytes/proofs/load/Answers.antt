@@ -2,9 +2,8 @@
 use borrow.Author.Rules.{rules}
 use native.Mathlib.Omega.{arith}
 use mathlib.Core.Path.{◌≡◌, refl}
-use Prim.Native.Nat.{◌≤◌, ◌-◌}
-use lib.ListN.{length, take, length-set}
-use Rattle.word_bytes.specs.Carry.{first_words, load_step, load_none}
+use lib.ListN.{length-set}
+use Rattle.word_bytes.specs.Carry.{load_step, load_none}
 use Rattle.word_bytes.proofs.load.Goals as goal
 
 pub loop-i-init : goal.loop-i-init

@@ -1,10 +1,8 @@
 -- `load` reads the first n words of the bytes: what is read so far are the first i of them. Assumes nothing.
-use borrow.Author.Rules.{rules}
-use native.Mathlib.Omega.{arith}
-use mathlib.Core.Path.{◌≡◌, refl}
+use mathlib.Core.Path.{◌≡◌}
 use Prim.Native.Nat.{◌≤◌, ◌-◌}
-use lib.ListN.{length, take, length-set}
-use Rattle.word_bytes.specs.Carry.{first_words, load_step, load_none}
+use lib.ListN.{length, take}
+use Rattle.word_bytes.specs.Carry.{first_words}
 use Rattle.word_bytes.proofs.load.Given as goal
 
 abbrev pub invariant-loop-i : goal.invariant-loop-i

@@ -1,5 +1,4 @@
 -- `put_word` writes the four bytes of a word. Assumes nothing.
-use borrow.Author.Rules.{rules}
 use native.Mathlib.Omega.{arith}
 use lib.ListN.{length-set}
 use Rattle.word_bytes.proofs.put_word.Goals as goal

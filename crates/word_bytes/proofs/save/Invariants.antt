@@ -1,13 +1,8 @@
 -- `save` writes all words over the bytes: so far the first i of them. Assumes nothing.
-use borrow.Author.Rules.{rules}
-use native.Mathlib.Omega.{arith}
-use mathlib.Core.Path.{◌≡◌, refl, ap, ◌∙◌}
-use Prim.Native.Nat.{◌≤◌, ◌-◌, ◌+◌, ◌*◌}
-use lib.ListN.{length, take, get_or}
-use lib.Seq.{take-length}
-use Rattle.lists.specs.Splice.{put_tail, splice}
-use Rattle.protocol.specs.Bytes.{word_bytes, over}
-use Rattle.word_bytes.specs.Carry.{over_none, over_step}
+use mathlib.Core.Path.{◌≡◌}
+use Prim.Native.Nat.{◌≤◌, ◌-◌}
+use lib.ListN.{length, take}
+use Rattle.protocol.specs.Bytes.{over}
 use Rattle.word_bytes.proofs.save.Given as goal
 
 abbrev pub invariant-loop-i : goal.invariant-loop-i

@@ -8,7 +8,6 @@ use Rattle.protocol.specs.Fresh.{founder_of}
 use Rattle.protocol.specs.Bytes.{words_of}
 use Rattle.word_bytes.specs.Carry.{word_at, words_all}
 use Rattle.card_bytes.specs.Results.{fresh_cards_1, fresh_cards_short, fresh_cards_13, fresh_cards_rest}
-use borrow.Author.Rules.{rules}
 use Rattle.card_bytes.proofs.calls.found.Goals as goal
 
 pub returns-then-words-lt-RECORD_BYTES : goal.returns-then-words-lt-RECORD_BYTES

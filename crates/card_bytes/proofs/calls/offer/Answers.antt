@@ -2,7 +2,6 @@
 use mathlib.Core.Path.{◌∙◌}
 use native.Mathlib.Omega.{arith}
 use Rattle.card_bytes.specs.Results.{offer_1, offer_short, offer_rest}
-use borrow.Author.Rules.{rules}
 use Rattle.card_bytes.proofs.calls.offer.Goals as goal
 
 pub returns-then-words-lt-RECORD_BYTES : goal.returns-then-words-lt-RECORD_BYTES

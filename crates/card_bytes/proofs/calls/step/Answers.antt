@@ -2,7 +2,6 @@
 use mathlib.Core.Path.{◌∙◌}
 use native.Mathlib.Omega.{arith}
 use Rattle.card_bytes.specs.Results.{step_cards_17, step_cards_1, step_cards_short, step_cards_rest}
-use borrow.Author.Rules.{rules}
 use Rattle.card_bytes.proofs.calls.step.Goals as goal
 
 pub returns-then-out-lt20 : goal.returns-then-out-lt20

@@ -2,7 +2,6 @@
 use Rattle.protocol.specs.Answers.{refusal}
 use Rattle.protocol.specs.Bytes.{bytes_after}
 use Rattle.protocol.specs.CardBytes.{taken}
-use borrow.Author.Rules.{rules}
 use Rattle.card_bytes.proofs.results.finish_offer.Goals as goal
 
 pub returns-in-Refused : goal.returns-in-Refused

@@ -2,7 +2,6 @@
 use Rattle.protocol.specs.Answers.{refusal, outcome_words}
 use Rattle.protocol.specs.Bytes.{over, bytes_after}
 use Rattle.protocol.specs.CardBytes.{carried_cards}
-use borrow.Author.Rules.{rules}
 use Rattle.card_bytes.proofs.results.finish_step.Goals as goal
 
 pub returns-in-Refused : goal.returns-in-Refused

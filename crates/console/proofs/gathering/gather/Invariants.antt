@@ -1,11 +1,8 @@
 -- `gather`: what is gathered from here on, with what is held so far, is what was to be gathered from the start. Assumes nothing.
-use borrow.Author.Rules.{rules}
-use native.Mathlib.Omega.{arith}
-use mathlib.Core.Path.{◌≡◌, refl, ap, ◌∙◌}
+use mathlib.Core.Path.{◌≡◌}
 use Prim.Native.Nat.{◌≤◌, ◌-◌}
-use lib.ListN.{length, take, drop, get_or}
+use lib.ListN.{length, take, drop}
 use Rattle.console.specs.Lines.{gathered}
-use Rattle.console.specs.Laws.{gathered_end, gathered_ends, gathered_more}
 use Rattle.console.proofs.gathering.gather.Given as goal
 
 abbrev pub invariant-loop-i : goal.invariant-loop-i

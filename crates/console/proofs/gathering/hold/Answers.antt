@@ -1,5 +1,4 @@
 -- `hold`: the byte goes behind those that are held, or nowhere. Assumes nothing.
-use borrow.Author.Rules.{rules}
 use native.Mathlib.Omega.{arith}
 use Rattle.console.specs.Laws.{kept_more, kept_full}
 use Rattle.console.proofs.gathering.hold.Goals as goal

@@ -5,7 +5,6 @@ use Rattle.protocol.specs.declared.Frame.TheVariants.{Founding, Command, Unreada
 use Rattle.protocol.specs.declared.Frame.{Frame}
 use Prim.Native.Nat.{ℕ}
 use mathlib.Core.Path.{◌≡◌, refl}
-use borrow.Author.Rules.{rules}
 use Rattle.frames.proofs.calls.answer_line.Goals as goal
 
 -- A frame that is no founding and no command.

@@ -2,7 +2,6 @@
 use Rattle.frames.specs.Founding.{length_identifiers}
 use mathlib.Core.Path.{ap, sym, ◌∙◌}
 use lib.ListN.{length}
-use borrow.Author.Rules.{rules}
 use Rattle.frames.proofs.calls.fresh_ring.Goals as goal
 
 pub slice_bounds-fresh_by-end : goal.slice_bounds-fresh_by-end

@@ -2,9 +2,8 @@
 use Rattle.frames.specs.Founding.{identifiers_more}
 use Rattle.protocol.specs.Frames.{identifiers}
 use Rattle.lists.specs.Basics.{table}
-use lib.ListN.{length, length-set, take}
-use Prim.Native.Nat.{◌≤◌, ◌-◌}
-use mathlib.Core.Path.{◌≡◌, refl, ◌∙◌}
+use lib.ListN.{length-set}
+use mathlib.Core.Path.{◌≡◌, refl}
 use native.Mathlib.Omega.{arith}
 use borrow.Author.Rules.{rules}
 use Rattle.frames.proofs.calls.identifiers.Goals as goal

@@ -1,12 +1,8 @@
 -- `frames::calls::identifiers`: the first i identifiers are read so far. Assumes nothing.
-use Rattle.frames.specs.Founding.{identifiers_more}
 use Rattle.protocol.specs.Frames.{identifiers}
-use Rattle.lists.specs.Basics.{table}
-use lib.ListN.{length, length-set, take}
+use lib.ListN.{length, take}
 use Prim.Native.Nat.{◌≤◌, ◌-◌}
-use mathlib.Core.Path.{◌≡◌, refl, ◌∙◌}
-use native.Mathlib.Omega.{arith}
-use borrow.Author.Rules.{rules}
+use mathlib.Core.Path.{◌≡◌}
 use Rattle.frames.proofs.calls.identifiers.Given as goal
 
 abbrev pub invariant-loop-i : goal.invariant-loop-i

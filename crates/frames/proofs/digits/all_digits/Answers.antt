@@ -4,10 +4,7 @@ use Rattle.protocol.specs.Frames.{is_digit}
 use Rattle.lists.specs.Basics.{every}
 use lib.Seq.{drop-length}
 use lib.ListN.{length, drop}
-use Prim.Native.Nat.{◌≤◌, ◌-◌}
-use mathlib.Core.Bool.{true, false}
 use mathlib.Core.Path.{◌≡◌, refl, sym, ◌∙◌, ap}
-use borrow.Author.Tests.{not-true, not-false}
 use native.Mathlib.Omega.{arith}
 use borrow.Author.Rules.{rules}
 use Rattle.frames.proofs.digits.all_digits.Goals as goal

@@ -1,15 +1,9 @@
 -- `frames::digits::all_digits` is `every is_digit`: all bytes pass if those from i on do. Assumes nothing.
-use Rattle.frames.specs.Digits.{every_stops, every_goes_on}
 use Rattle.protocol.specs.Frames.{is_digit}
 use Rattle.lists.specs.Basics.{every}
-use lib.Seq.{drop-length}
 use lib.ListN.{length, drop}
 use Prim.Native.Nat.{◌≤◌, ◌-◌}
-use mathlib.Core.Bool.{true, false}
-use mathlib.Core.Path.{◌≡◌, refl, sym, ◌∙◌, ap}
-use borrow.Author.Tests.{not-true, not-false}
-use native.Mathlib.Omega.{arith}
-use borrow.Author.Rules.{rules}
+use mathlib.Core.Path.{◌≡◌}
 use Rattle.frames.proofs.digits.all_digits.Given as goal
 
 abbrev pub invariant-loop-i : goal.invariant-loop-i

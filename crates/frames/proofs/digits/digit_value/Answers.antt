@@ -2,7 +2,6 @@
 use Rattle.protocol.specs.Frames.{digit_value}
 use Rattle.lists.specs.Basics.{when◌then◌else◌}
 use borrow.Author.Tests.{lt-ltb, le-ltb}
-use borrow.Author.Rules.{rules}
 use Rattle.frames.proofs.digits.digit_value.Goals as goal
 
 pub returns-then-b-lt48 : goal.returns-then-b-lt48

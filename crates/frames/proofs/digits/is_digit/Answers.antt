@@ -1,6 +1,5 @@
 -- `frames::digits::is_digit` is `is_digit`, from its two ranges. Assumes nothing.
 use Rattle.protocol.specs.Frames.{is_digit}
-use borrow.Author.Rules.{rules}
 use Rattle.frames.proofs.digits.is_digit.Goals as goal
 
 pub returns : goal.returns

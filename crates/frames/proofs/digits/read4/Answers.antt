@@ -3,7 +3,6 @@ use Rattle.frames.specs.Digits.{read2_bound}
 use Rattle.protocol.specs.Frames.{read4}
 use Prim.Native.Nat.{◌<◌}
 use native.Mathlib.Omega.{arith}
-use borrow.Author.Rules.{rules}
 use Rattle.frames.proofs.digits.read4.Goals as goal
 
 pub overflow_mul-result : goal.overflow_mul-result

@@ -3,7 +3,6 @@ use Rattle.frames.specs.Digits.{read4_bound}
 use Rattle.protocol.specs.Frames.{read8}
 use Prim.Native.Nat.{◌<◌}
 use native.Mathlib.Omega.{arith}
-use borrow.Author.Rules.{rules}
 use Rattle.frames.proofs.digits.read8.Goals as goal
 
 pub overflow_mul-result : goal.overflow_mul-result

@@ -2,7 +2,6 @@
 use Rattle.protocol.specs.Frames.{digit_of}
 use Rattle.lists.specs.Basics.{when◌then◌else◌}
 use borrow.Author.Tests.{lt-ltb, le-ltb}
-use borrow.Author.Rules.{rules}
 use Rattle.frames.proofs.printing.digit_of.Goals as goal
 
 pub returns-then-d-lt10 : goal.returns-then-d-lt10

@@ -1,6 +1,5 @@
 -- `frames::printing::outcome_line`: what the two lines ensure, by the outcome. Assumes nothing.
 use Rattle.protocol.specs.Frames.{outcome_text}
-use borrow.Author.Rules.{rules}
 use Rattle.frames.proofs.printing.outcome_line.Goals as goal
 
 pub returns-in-Refused : goal.returns-in-Refused

@@ -3,7 +3,6 @@ use native.Mathlib.Omega.{arith}
 use lib.ListN.{length-set}
 use Rattle.protocol.specs.Frames.{print2}
 use Rattle.frames.specs.Printing.{put_two}
-use borrow.Author.Rules.{rules}
 use Rattle.frames.proofs.printing.put2.Goals as goal
 
 pub bounds-out-at-2 : goal.bounds-out-at-2

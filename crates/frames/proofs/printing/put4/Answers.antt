@@ -1,6 +1,5 @@
 -- `frames::printing::put4`: twice two digits, the second where the first end. Assumes nothing.
 use Rattle.frames.specs.Printing.{put_four}
-use borrow.Author.Rules.{rules}
 use Rattle.frames.proofs.printing.put4.Goals as goal
 
 pub returns : goal.returns

@@ -1,6 +1,5 @@
 -- `frames::printing::put8`: twice four digits, the second where the first end. Assumes nothing.
 use Rattle.frames.specs.Printing.{put_eight}
-use borrow.Author.Rules.{rules}
 use Rattle.frames.proofs.printing.put8.Goals as goal
 
 pub returns : goal.returns

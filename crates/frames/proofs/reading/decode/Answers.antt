@@ -1,8 +1,7 @@
 -- `frames::reading::decode` is `frame`: each return is what the questions before it say. Assumes nothing.
 use Rattle.protocol.specs.Frames.{frame, command}
 use Rattle.lists.specs.Basics.{when◌then◌else◌, require}
-use borrow.Author.Tests.{eq-eqb, ne_eqb, lt-leb, le-leb, not-true, not-false}
-use borrow.Author.Rules.{rules}
+use borrow.Author.Tests.{eq-eqb, ne_eqb, lt-leb, le-leb}
 use Rattle.frames.proofs.reading.decode.Goals as goal
 
 pub returns-then-line-gt514 : goal.returns-then-line-gt514

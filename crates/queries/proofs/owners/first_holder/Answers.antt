@@ -1,9 +1,7 @@
 -- `first_holder`: a search that has found no holder below the node it has come to. Assumes nothing.
 use mathlib.Core.Path.{◌≡◌, sym, ◌∙◌}
-use Prim.Native.Nat.{◌≤◌, ◌-◌}
 use native.Mathlib.Omega.{arith}
 use borrow.Author.Rules.{rules}
-use Rattle.lists.specs.Basics.{first}
 use Rattle.lists.specs.Search.{first_none, first_more, first_at}
 use Rattle.protocol.specs.Record.{read, count_in}
 use Rattle.protocol.specs.Membership.{holds}

@@ -1,13 +1,9 @@
 -- `first_holder`: a search that has found no holder below the node it has come to. Assumes nothing.
-use mathlib.Core.Path.{◌≡◌, sym, ◌∙◌}
+use mathlib.Core.Path.{◌≡◌}
 use Prim.Native.Nat.{◌≤◌, ◌-◌}
-use native.Mathlib.Omega.{arith}
-use borrow.Author.Rules.{rules}
 use Rattle.lists.specs.Basics.{first}
-use Rattle.lists.specs.Search.{first_none, first_more, first_at}
-use Rattle.protocol.specs.Record.{read, count_in}
+use Rattle.protocol.specs.Record.{read}
 use Rattle.protocol.specs.Membership.{holds}
-use Rattle.queries.specs.Questions.{lowest_read}
 use Rattle.queries.proofs.owners.first_holder.Given as goal
 
 abbrev pub invariant-loop-node : goal.invariant-loop-node

@@ -1,7 +1,5 @@
 -- `holds`: the node's state and its range decide, in this order. Assumes nothing.
 use mathlib.Core.Path.{sym, ◌∙◌, ap}
-use borrow.Author.Tests.{not-true, not-false}
-use borrow.Author.Rules.{rules}
 use Rattle.protocol.specs.Routing.{responsible, covers}
 use Rattle.protocol.specs.Record.{read, identifier}
 use Rattle.queries.specs.Questions.{holds_no, holds_by_range}

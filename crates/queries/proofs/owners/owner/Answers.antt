@@ -1,7 +1,5 @@
 -- `owner`: at each return the questions asked so far decide the call. Assumes nothing.
 use mathlib.Core.Path.{sym, ◌∙◌}
-use borrow.Author.Tests.{not-true, not-false}
-use borrow.Author.Rules.{rules}
 use Rattle.layout.specs.Form.{valid}
 use Rattle.queries.specs.Questions.{owner_1, owner_2, owner_15, owner_holder}
 use Rattle.queries.proofs.owners.owner.Goals as goal

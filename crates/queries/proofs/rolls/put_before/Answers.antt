@@ -1,5 +1,4 @@
 -- `put_before`: one node before the rest of a roll, where that is written. Assumes nothing.
-use borrow.Author.Rules.{rules}
 use Rattle.queries.specs.Rolls.{Room, preceded}
 use Rattle.queries.proofs.rolls.put_before.Goals as goal
 

@@ -1,5 +1,4 @@
 -- `put_last`: a roll of one node, at its place. Assumes nothing.
-use borrow.Author.Rules.{rules}
 use Rattle.queries.specs.Rolls.{last_written, last_17}
 use Rattle.queries.proofs.rolls.put_last.Goals as goal
 

@@ -1,8 +1,6 @@
 -- `roll_call`: at each return the questions asked so far decide the call. Assumes nothing.
 -- an equation, and the same by numbers
 use mathlib.Core.Path.{◌≡◌, sym, ◌∙◌, ap}
-use borrow.Author.Tests.{not-true, not-false}
-use borrow.Author.Rules.{rules}
 use Rattle.protocol.specs.Calls.{Rolled, numbered}
 use Rattle.layout.specs.Form.{valid}
 use Rattle.queries.specs.Questions.{roll_1, roll_2}

@@ -1,7 +1,5 @@
 -- `roll_from`: at each return the questions asked so far decide the call. Assumes nothing.
 use mathlib.Core.Path.{sym, ◌∙◌, ap}
-use borrow.Author.Tests.{not-true, not-false}
-use borrow.Author.Rules.{rules}
 use Rattle.protocol.specs.Routing.{in_ring}
 use Rattle.queries.specs.Questions.{roll_4, roll_5, roll_given}
 use Rattle.queries.proofs.rolls.roll_from.Goals as goal

@@ -1,6 +1,5 @@
 -- `hub_row`: at each return the questions asked so far decide the call. Assumes nothing.
 use mathlib.Core.Path.{sym, ◌∙◌}
-use borrow.Author.Rules.{rules}
 use Rattle.layout.specs.Form.{valid}
 use Rattle.queries.specs.Questions.{row_1, row_2}
 use Rattle.queries.proofs.rows.hub_row.Goals as goal

@@ -3,7 +3,6 @@ use mathlib.Core.Path.{◌≡◌, sym, ◌∙◌, ap}
 use Prim.Native.Nat.{◌+◌, ◌-◌}
 use native.Mathlib.Omega.{arith}
 use lib.ListN.{take, drop}
-use borrow.Author.Rules.{rules}
 use Rattle.protocol.specs.Record.{row_size, row_start}
 use Rattle.queries.specs.Questions.{row_4, row_given}
 use Rattle.queries.proofs.rows.row_part.Goals as goal

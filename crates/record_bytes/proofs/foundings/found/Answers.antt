@@ -9,9 +9,7 @@ use Rattle.lists.specs.Members.{all_at}
 use Rattle.word_bytes.specs.Carry.{word_at, words_all}
 use Rattle.protocol.specs.Fresh.{founder_of}
 use Rattle.record_bytes.specs.Results.{fresh_1, fresh_13, fresh_rest}
-use borrow.Author.Rules.{rules}
 use Rattle.protocol.specs.Bytes.{Byte, words_of}
-use Rattle.record_bytes.proofs.foundings.found.Lts as lts
 use Rattle.record_bytes.proofs.foundings.found.Goals as goal
 
 pub returns-then-words-lt-RECORD_BYTES : goal.returns-then-words-lt-RECORD_BYTES

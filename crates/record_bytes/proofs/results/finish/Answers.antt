@@ -1,8 +1,6 @@
 -- `finish` hands back what a step left. Assumes nothing.
 use Rattle.protocol.specs.Answers.{refusal, outcome_words}
 use Rattle.protocol.specs.Bytes.{over, bytes_after, carried}
-use borrow.Author.Rules.{rules}
-use Rattle.record_bytes.proofs.results.finish.Lts as lts
 use Rattle.record_bytes.proofs.results.finish.Goals as goal
 
 pub returns-in-Refused : goal.returns-in-Refused

@@ -1,8 +1,6 @@
 -- `finish_fresh` hands back what a fresh call left. Assumes nothing.
 use Rattle.protocol.specs.Answers.{refusal}
 use Rattle.protocol.specs.Bytes.{bytes_after, fresh_carried}
-use borrow.Author.Rules.{rules}
-use Rattle.record_bytes.proofs.results.finish_fresh.Lts as lts
 use Rattle.record_bytes.proofs.results.finish_fresh.Goals as goal
 
 pub returns-in-Refused : goal.returns-in-Refused

@@ -1,8 +1,6 @@
 -- `finish_owner` hands back what the owner query found. Assumes nothing.
 use Rattle.protocol.specs.Answers.{owner_refusal, owner_words}
 use Rattle.protocol.specs.Bytes.{over, told}
-use borrow.Author.Rules.{rules}
-use Rattle.record_bytes.proofs.results.finish_owner.Lts as lts
 use Rattle.record_bytes.proofs.results.finish_owner.Goals as goal
 
 pub returns-in-Refused : goal.returns-in-Refused

@@ -1,7 +1,6 @@
 -- `finish_sheet` hands back the number, and the counts of a sheet. Assumes nothing.
 use mathlib.Core.Path.{sym, ap, ◌∙◌}
 use Rattle.sheet_bytes.specs.Told.{code_of, count_words, counts_after}
-use borrow.Author.Rules.{rules}
 use Rattle.sheet_bytes.proofs.results.finish_sheet.Goals as goal
 
 pub returns-in-Refused : goal.returns-in-Refused

@@ -1,5 +1,4 @@
 -- `answer`: what is printed for the line is copied behind what waits. Assumes nothing.
-use borrow.Author.Rules.{rules}
 use native.Mathlib.Omega.{arith}
 use Prim.Native.Nat.{◌≤◌}
 use lib.ListN.{length}

@@ -2,8 +2,8 @@
 use borrow.Author.Rules.{rules}
 use native.Mathlib.Omega.{arith}
 use mathlib.Core.Path.{◌≡◌, refl, ap, ◌∙◌}
-use Prim.Native.Nat.{◌+◌, ◌≤◌, ◌-◌}
-use lib.ListN.{length, set, get_or, length-set}
+use Prim.Native.Nat.{◌+◌}
+use lib.ListN.{set, get_or, length-set}
 use lib.Seq.{paste, paste-zero}
 use Rattle.stream.specs.Laws.{paste_more}
 use Rattle.stream.proofs.answering.put.Goals as goal

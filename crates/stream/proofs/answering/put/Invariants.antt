@@ -1,11 +1,8 @@
 -- `put`: the first i bytes are copied. Assumes nothing.
-use borrow.Author.Rules.{rules}
-use native.Mathlib.Omega.{arith}
-use mathlib.Core.Path.{◌≡◌, refl, ap, ◌∙◌}
-use Prim.Native.Nat.{◌+◌, ◌≤◌, ◌-◌}
-use lib.ListN.{length, set, get_or, length-set}
-use lib.Seq.{paste, paste-zero}
-use Rattle.stream.specs.Laws.{paste_more}
+use mathlib.Core.Path.{◌≡◌}
+use Prim.Native.Nat.{◌≤◌, ◌-◌}
+use lib.ListN.{length}
+use lib.Seq.{paste}
 use Rattle.stream.proofs.answering.put.Given as goal
 
 abbrev pub invariant-loop-i : goal.invariant-loop-i

@@ -1,11 +1,9 @@
 -- `take_bytes`: line by line, what is still to be taken leads to what the whole piece does. Assumes nothing.
 use borrow.Author.Rules.{rules}
 use native.Mathlib.Omega.{arith}
-use mathlib.Core.Path.{◌≡◌, refl, ◌∙◌}
-use Prim.Native.Nat.{◌≤◌, ◌+◌, ◌*◌, ◌-◌}
-use lib.ListN.{length, take, drop}
-use Rattle.protocol.specs.Ringrun.{fed}
-use Rattle.stream.specs.Pieces.{cut, taken}
+use mathlib.Core.Path.{refl, ◌∙◌}
+use lib.ListN.{take}
+use Rattle.stream.specs.Pieces.{taken}
 use Rattle.stream.specs.Laws.{drop_further, all_taken}
 use Rattle.stream.proofs.taking.take_bytes.Goals as goal
 

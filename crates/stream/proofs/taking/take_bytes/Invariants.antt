@@ -1,12 +1,9 @@
 -- `take_bytes`: line by line, what is still to be taken leads to what the whole piece does. Assumes nothing.
-use borrow.Author.Rules.{rules}
-use native.Mathlib.Omega.{arith}
-use mathlib.Core.Path.{◌≡◌, refl, ◌∙◌}
+use mathlib.Core.Path.{◌≡◌}
 use Prim.Native.Nat.{◌≤◌, ◌+◌, ◌*◌, ◌-◌}
 use lib.ListN.{length, take, drop}
 use Rattle.protocol.specs.Ringrun.{fed}
 use Rattle.stream.specs.Pieces.{cut, taken}
-use Rattle.stream.specs.Laws.{drop_further, all_taken}
 use Rattle.stream.proofs.taking.take_bytes.Given as goal
 
 abbrev pub invariant-loop-at : goal.invariant-loop-at

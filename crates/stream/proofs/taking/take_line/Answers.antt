@@ -1,5 +1,4 @@
 -- `take_line`: the line is gathered, and is answered if it has ended. Assumes nothing.
-use borrow.Author.Rules.{rules}
 use native.Mathlib.Omega.{arith}
 use mathlib.Core.Path.{refl, sym}
 use Prim.Native.Nat.{◌<◌}
