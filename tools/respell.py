@@ -18,6 +18,8 @@ DECLARED = re.compile(r"\s*(?:(?:abbrev|unfoldable|pub|data|record|mutual|constr
 ALIAS = re.compile(r"\bas ([A-Za-z][\w'-]*)")
 # Tests on numbers have one name in the library and an older one.
 TESTS = {"eqb": "nat_eq", "ltb": "nat_lt", "leb": "nat_le"}
+# The library's name for a choice that always unfolds; the repository's own stays shut, and has another.
+CHOICE = {"if": "when", "if◌then◌else◌": "when◌then◌else◌"}
 LOGIC = re.compile(r"^use ((?!Rattle\.std\.specs\.Prelude|Rattle\.std\.proofs\.Common)[\w.]+)\.\{([^}]*)\}$", re.M)
 
 
@@ -82,7 +84,7 @@ def turn_code(text, words, projected, seen):
         behind_dot = m.start() and text[m.start() - 1] == "."
         to = words.get(word) if not behind_dot or word in projected else None
         if to is None and not behind_dot:
-            to = TESTS.get(word)
+            to = TESTS.get(word, CHOICE.get(word))
         if not behind_dot:
             seen.setdefault(to or word, set()).add(word)
         if to:
