@@ -9,6 +9,7 @@ use Rattle.sheet_reading.specs.Carried.{length_bytes}
 use Rattle.std.specs.Prelude.{nat_lt}
 use lib.ListN.{length}
 use Rattle.sheet_reading.specs.Filled.{accepted, neither, read_none, too_large, room_short, roomy, all_read}
+use borrow.Author.Rules.{rules}
 use Rattle.sheet_reading.proofs.carried.read_sheet_bytes.Goals as goal
 
 pub returns-in_default : goal.returns-in_default
@@ -21,7 +22,7 @@ returns-then-not-fits c = too_large (λ z. bytes_of z) c.args.identifiers.now c.
 
 pub returns-then-is_short : goal.returns-then-is_short
 unfolding read_bytes_call
-returns-then-is_short c = room_short (λ z. bytes_of z) c.args.identifiers.now c.args.names.now _ _ _ _ (sym c.in-Sheet.is ∙ c.judge-j.ensures) (c.if-not-fits.false) _ (λ t. let z = ltb-true (length c.args.identifiers.now / 4) c.in-Sheet.rows t in let x = (accepted _ _ _ _ (sym c.in-Sheet.is ∙ c.judge-j.ensures)).rows in let y = length_bytes (accepted _ _ _ _ (sym c.in-Sheet.is ∙ c.judge-j.ensures)).i in omega arith) (sym c.either-is_short.ensures ∙ c.if-is_short.true)
+returns-then-is_short c = room_short (λ z. bytes_of z) c.args.identifiers.now c.args.names.now _ _ _ _ (sym c.in-Sheet.is ∙ c.judge-j.ensures) (search rules) _ (λ t. let z = ltb-true (length c.args.identifiers.now / 4) c.in-Sheet.rows t in let x = (accepted _ _ _ _ (sym c.in-Sheet.is ∙ c.judge-j.ensures)).rows in let y = length_bytes (accepted _ _ _ _ (sym c.in-Sheet.is ∙ c.judge-j.ensures)).i in omega arith) (sym c.either-is_short.ensures ∙ c.if-is_short.true)
 
 pub fill_bytes-requires : goal.fill_bytes-requires
 fill_bytes-requires c = roomy (λ z. bytes_of z) c.args.identifiers.now c.args.names.now _ _ _ _ (sym c.in-Sheet.is ∙ c.judge-j.ensures) (c.if-not-fits.false) (let z = ltb-false (length c.args.identifiers.now / 4) c.in-Sheet.rows (neither (nat_lt (length c.args.identifiers.now / 4) c.in-Sheet.rows) (nat_lt (length c.args.names.now) c.in-Sheet.bytes) (sym c.either-is_short.ensures ∙ c.if-is_short.false)).0 in let x = (accepted _ _ _ _ (sym c.in-Sheet.is ∙ c.judge-j.ensures)).rows in let y = length_bytes (accepted _ _ _ _ (sym c.in-Sheet.is ∙ c.judge-j.ensures)).i in omega arith) (ltb-false (length c.args.names.now) c.in-Sheet.bytes (neither (nat_lt (length c.args.identifiers.now / 4) c.in-Sheet.rows) (nat_lt (length c.args.names.now) c.in-Sheet.bytes) (sym c.either-is_short.ensures ∙ c.if-is_short.false)).1)
