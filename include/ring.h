@@ -13,7 +13,7 @@
  * state of their own, and may run on many threads at once, each on its own buffers.
  *
  * A call needs less than 10 KiB of stack, ring_route less than 12 KiB, one with cards less than 40 KiB. Link with libring_c.a
- * (`rt staticlib ring_c`, x86-64), which needs memcpy, memmove and memset and nothing else.
+ * (`rt lib` in crates/ring_c writes it, x86-64), which needs memcpy, memmove and memset and nothing else.
  */
 #ifndef RING_H
 #define RING_H

@@ -18,7 +18,9 @@ DECLARED = re.compile(r"\s*(?:(?:abbrev|unfoldable|pub|data|record|mutual|constr
 ALIAS = re.compile(r"\bas ([A-Za-z][\w'-]*)")
 # Tests on numbers have one name in the library and an older one.
 TESTS = {"eqb": "nat_eq", "ltb": "nat_lt", "leb": "nat_le"}
-LOGIC = re.compile(r"^use lib\.Dec\.\{([^}]*)\}$", re.M)
+# The library's name for a choice that always unfolds; the repository's own stays shut, and has another.
+CHOICE = {"if": "when", "if◌then◌else◌": "when◌then◌else◌"}
+LOGIC = re.compile(r"^use ((?!Rattle\.std\.specs\.Prelude|Rattle\.std\.proofs\.Common)[\w.]+)\.\{([^}]*)\}$", re.M)
 
 
 def snake(word):
@@ -82,7 +84,7 @@ def turn_code(text, words, projected, seen):
         behind_dot = m.start() and text[m.start() - 1] == "."
         to = words.get(word) if not behind_dot or word in projected else None
         if to is None and not behind_dot:
-            to = TESTS.get(word)
+            to = TESTS.get(word, CHOICE.get(word))
         if not behind_dot:
             seen.setdefault(to or word, set()).add(word)
         if to:
@@ -99,21 +101,31 @@ def turn_comment(text, words):
     return re.sub(r"(?<![\w-])[a-z]\w*[A-Z]\w*(?![\w-])", lambda m: words.get(m.group(0), m.group(0)), text)
 
 
+def turn_qualified(text, words):
+    """Turns a word behind a module's name, which is a whole path or what a 'use' line of the file calls it."""
+    text = re.sub(r"(Rattle\.\w+\.specs\.(?:[A-Z]\w*\.)+)([a-z][\w'-]*)", lambda m: m.group(1) + words.get(m.group(2), m.group(2)), text)
+    for path, alias in re.findall(r"^\s*(?:pub )?use ([^\s{]+?)(?: as ([\w'-]+))?$", text, re.M):
+        name = re.escape(alias or path.split(".")[-1])
+        text = re.sub(rf"(?<![\w'.-])({name}\.)([A-Za-z][\w'₀-₉-]*)", lambda m: m.group(1) + words.get(m.group(2), m.group(2)), text)
+    return text
+
+
 def turn_antt(text, words, projected, seen):
     lines = []
-    text = LOGIC.sub(lambda m: logic_use(m.group(1)), text)
+    text = turn_qualified(LOGIC.sub(lambda m: logic_use(m.group(1), m.group(2)), text), words)
     for line in text.split("\n"):
         code, comment = code_and_comment(line)
         lines.append(turn_code(code, words, projected, seen) + turn_comment(comment, words))
     return "\n".join(lines)
 
 
-def logic_use(names):
+def logic_use(module, names):
+    """An import of tests by their older name comes from where the library has the newer one."""
     names = [n.strip() for n in names.split(",")]
     tests = [n for n in names if n in TESTS]
     rest = [n for n in names if n not in TESTS]
-    lines = ["use Rattle.std.specs.Prelude.{" + ", ".join(tests) + "}"] if tests else []
-    return "\n".join(lines + (["use lib.Dec.{" + ", ".join(rest) + "}"] if rest else []))
+    lines = ["use Rattle.std.proofs.Common.{" + ", ".join(tests) + "}"] if tests else []
+    return "\n".join(lines + ([f"use {module}.{{" + ", ".join(rest) + "}"] if rest else []))
 
 
 def clauses(text):

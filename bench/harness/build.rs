@@ -1,4 +1,4 @@
-//! Links the engine's archive, which `rt staticlib ring_c` writes.
+//! Links the engine's archive, which `tests/built ring_c` puts there.
 
 fn main() {
     let root = concat!(env!("CARGO_MANIFEST_DIR"), "/../..");

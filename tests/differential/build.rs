@@ -1,4 +1,4 @@
-//! Links the engine's archive, which `rt staticlib ring_c` writes below the repository's target
+//! Links the engine's archive, which `tests/built ring_c` puts below the repository's target
 //! folder.
 
 use std::env;

@@ -1,5 +1,6 @@
 // An answer as document 01 numbers it: the enum's cases as words, for whoever hands answers on.
 #![tactic(auto)]
+
 ghost use Rattle.std.specs.Prelude.{◌≡◌};
 ghost use Rattle.protocol.specs.Answers.{answer_words};
 

@@ -7,7 +7,7 @@ use mathlib.Core.List.{List, [], ◌∷◌, ◌++◌, map, append-nil}
 use Rattle.std.proofs.Math.Dec.{nltb→le}
 use Rattle.std.proofs.lemmas.List.{set-get_or}
 use Rattle.clockwise.specs.Laws.{In}
-use Rattle.lists.specs.Basics.{if◌then◌else◌, Mem, times}
+use Rattle.lists.specs.Basics.{when◌then◌else◌, Mem, times}
 use Rattle.lists.specs.Choice.{choose, passes}
 use Rattle.lists.specs.Members.{mem_mid}
 use Rattle.lists.specs.Tests.{and_both, →eqb}
@@ -307,7 +307,7 @@ module _ (id : ℕ → ℕ) (small : (h : ℕ) → id h < round) (c : ℕ) (inj 
   -- whatever the message is
   pub deliver_fine : (m : Msg) → Clear m s → With m
       → Ok (to m) (handle (row_of rows (row_of rows (to m)).pred).identifier (row_of rows (to m)) (row_of rows (erase m).a) (erase m))
-  unfolding handle if◌then◌else◌
+  unfolding handle when◌then◌else◌
   deliver_fine (lookup x y v k h) = lookup_fine x y v k h
   deliver_fine (join x y a) = join_fine x y a
   deliver_fine (join_retry x a) = join_retry_fine x a

@@ -9,7 +9,7 @@ use Rattle.std.proofs.Math.Dec.{eqb_refl}
 use Rattle.std.proofs.Math.ListN.{get_or}
 use borrow.Author.Tests.{lt-ltb}
 use Rattle.clockwise.specs.Clockwise.{dist, within}
-use Rattle.lists.specs.Basics.{if◌then◌else◌, require, every, distinct, first}
+use Rattle.lists.specs.Basics.{when◌then◌else◌, require, every, distinct, first}
 use Rattle.lists.specs.Choice.{on_yes, on_no}
 use Rattle.lists.specs.Tests.{T_true, says_distinct}
 use Rattle.protocol.specs.declared.Route.TheVariants.{Own, To}
@@ -47,7 +47,7 @@ pub in_order : (w : List ℕ) → record_size ≤ length w
     → ((fresh_by_call w [] 0).outcome ≡ Refused IDENTIFIER_COUNT)
     × ((fresh_by_call w (100 ∷ 100 ∷ []) 2).outcome ≡ Refused IDENTIFIER_TWICE)
     × ((fresh_by_call w (100 ∷ 200 ∷ []) 2).outcome ≡ Refused NO_FOUNDER)
-unfolding fresh_by_call require if◌then◌else◌ distinct every
+unfolding fresh_by_call require when◌then◌else◌ distinct every
 in_order w l = (
   ap (λ (z : Called). z.outcome) (on_yes _ _ _ (long_yes w l)),
   ap (λ (z : Called). z.outcome) (on_yes _ _ _ (long_yes w l)),
@@ -77,15 +77,15 @@ module _ (ids : List ℕ) (f : ℕ) (below : f < length ids) where
 
   -- the founder's range is the whole ring
   owns : (v : ℕ) → onward (identifier s (row s f).pred) (row s f) v ≡ Own
-  unfolding onward covers within if◌then◌else◌
+  unfolding onward covers within when◌then◌else◌
   owns v =
       let n = get_or ids f 0 in
       ap (λ h. onward (identifier s h.pred) h v) is_alone
       ∙ ap (λ h. onward h.identifier (alone f n) v) is_alone
-      ∙ ap (λ b. if b || (nat_le 1 (dist round n v) && nat_le (dist round n v) (dist round n n)) then Own else To f) (T_true (nat_eq n n) (eqb_refl n))
+      ∙ ap (λ b. when b || (nat_le 1 (dist round n v) && nat_le (dist round n v) (dist round n n)) then Own else To f) (T_true (nat_eq n n) (eqb_refl n))
 
   answers : (v : ℕ) → step.step s 0 f v ≡ accepted (Found f v 0 0) (ticketed s)
-  unfolding fresh step.step step.ask asking if◌then◌else◌ in_ring
+  unfolding fresh step.step step.ask asking when◌then◌else◌ in_ring
   answers v =
       on_yes _ _ _ (hubs f below)
       ∙ on_yes _ _ _ (ap in_ring is_alone)
@@ -93,7 +93,7 @@ module _ (ids : List ℕ) (f : ℕ) (below : f < length ids) where
       ∙ ap (asking s f v) (owns v)
 
   stays : step.step s 2 f 0 ≡ refused LAST_HUB
-  unfolding fresh step.step step.leave if◌then◌else◌ in_ring
+  unfolding fresh step.step step.leave when◌then◌else◌ in_ring
   stays =
       on_yes _ _ _ (hubs f below)
       ∙ on_yes _ _ _ (ap in_ring is_alone)
@@ -101,7 +101,7 @@ module _ (ids : List ℕ) (f : ℕ) (below : f < length ids) where
       ∙ on_no _ _ _ (ap (λ h. not (nat_eq h.succ f)) is_alone ∙ ap not (T_true (nat_eq f f) (eqb_refl f)))
 
   empty : (x y : ℕ) → x < length ids → y < length ids → step.step s 3 x y ≡ refused NO_MESSAGE
-  unfolding fresh step.step step.deliver if◌then◌else◌ first require
+  unfolding fresh step.step step.deliver when◌then◌else◌ first require
   empty x y lx ly =
       on_yes _ _ _ (ap (λ b. b && nat_lt y (count s)) (hubs x lx) ∙ hubs y ly)
 
@@ -111,11 +111,11 @@ module _ (ids : List ℕ) (f : ℕ) (below : f < length ids) where
     not_in = ap in_ring (other_row ids f below hub ne)
 
     asked : (v : ℕ) → step.step s 0 hub v ≡ refused NOT_IN_RING
-    unfolding step.step step.ask if◌then◌else◌
+    unfolding step.step step.ask when◌then◌else◌
     asked v = on_yes _ _ _ (hubs hub l) ∙ on_no _ _ _ not_in
 
     joins : step.step s 1 hub hub ≡ refused NOT_IN_RING
-    unfolding fresh step.step step.join if◌then◌else◌
+    unfolding fresh step.step step.join when◌then◌else◌
     joins =
         on_yes _ _ _ (ap (λ b. b && nat_lt hub (count s)) (hubs hub l) ∙ hubs hub l)
         ∙ on_yes _ _ _ (ap (λ h. nat_eq h.state 0) (other_row ids f below hub ne))

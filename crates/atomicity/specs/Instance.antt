@@ -3,7 +3,7 @@
 use Rattle.std.specs.Prelude.{◌≡◌, refl, List, [], ◌∷◌, ℕ, ◌≤◌, T, nat_lt, length, replicate}
 use Rattle.std.proofs.Math.Path.{ap}
 use native.Mathlib.Omega.{arith}
-use Rattle.lists.specs.Basics.{if◌then◌else◌, require, every, first, distinct, All}
+use Rattle.lists.specs.Basics.{when◌then◌else◌, require, every, first, distinct, All}
 use Rattle.lists.specs.Choice.{tested, granted}
 use Rattle.protocol.specs.Record.{record_size}
 use Rattle.protocol.specs.Fresh.{smallest}
@@ -22,7 +22,7 @@ abbrev pub two : List ℕ
 two = 200 ∷ 100 ∷ []
 
 pub hub_1_founds : smallest two ≡ 1
-unfolding smallest first every if◌then◌else◌
+unfolding smallest first every when◌then◌else◌
 hub_1_founds = refl
 
 -- What is claimed of the record that a fresh call left, after any list of calls.
@@ -43,7 +43,7 @@ module _ (slice : List ℕ) (l : record_size ≤ length slice) (calls : List Cal
   }))
 
   pub two_hubs_none_named : Going (fresh_call slice two) 1 calls
-  unfolding smallest first every if◌then◌else◌
+  unfolding smallest first every when◌then◌else◌
   two_hubs_none_named = two_hubs 1 tt
 
 -- In C: the identifiers as bytes, and any list of calls with any outputs.
@@ -70,16 +70,16 @@ module _ (lent : List ℕ) (bytes : All Byte lent) (l : record_size ≤ length (
   })
 
   pub two_hubs_in_c_none_named : GoingBytes (fresh_bytes lent two_bytes) 1 calls
-  unfolding smallest first every if◌then◌else◌ words_of
+  unfolding smallest first every when◌then◌else◌ words_of
   two_hubs_in_c_none_named = two_hubs_in_c 1 tt
 
 -- A call with an output of 19 bytes makes no step and leaves the bytes; one with 20 bytes makes one.
 pub with_19_bytes : (b : List ℕ) (c : Call) → (steps_of b (step c (replicate 19 0) ∷ []) ≡ []) × (bytes_left b (step c (replicate 19 0) ∷ []) ≡ b)
-unfolding steps_of bytes_left step_bytes require if◌then◌else◌
+unfolding steps_of bytes_left step_bytes require when◌then◌else◌
 with_19_bytes b c = (refl, refl)
 
 pub with_20_bytes : (b : List ℕ) (c : Call) → steps_of b (step c (replicate 20 0) ∷ []) ≡ record { call = c; outcome = (called present (words_of b) c).outcome } ∷ []
-unfolding steps_of require if◌then◌else◌
+unfolding steps_of require when◌then◌else◌
 with_20_bytes b c = refl
 
 -- A route of one number with 23 bytes for its outcome asks nothing, whatever the record is; with 24 it asks, where the record passes 1 and 2.
@@ -87,11 +87,11 @@ abbrev seven : List ℕ
 seven = 7 ∷ 0 ∷ 0 ∷ 0 ∷ []
 
 no_place_lem : (e : List Event) → fitting (words_of seven) (words_of (replicate 23 0)) (λ k. []) e ≡ []
-unfolding fitting words_of require if◌then◌else◌
+unfolding fitting words_of require when◌then◌else◌
 no_place_lem e = refl
 
 a_place : (e : List Event) → fitting (words_of seven) (words_of (replicate 24 0)) (λ k. []) e ≡ e
-unfolding fitting words_of require if◌then◌else◌
+unfolding fitting words_of require when◌then◌else◌
 a_place e = refl
 
 pub with_23_bytes : (b : List ℕ) (hub : ℕ) → step_of b (route hub seven (replicate 23 0)) ≡ []

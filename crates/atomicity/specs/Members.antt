@@ -1,7 +1,7 @@
 -- The ledger's members as the invariant sees them, and its owner as document 01 computes it. Assumes nothing.
 use Rattle.std.specs.Prelude.{◌≡◌, refl, ◌≢◌, Bool, true, false, List, [], ◌∷◌, ℕ, ◌<◌, T, nat_eq, length, get_or}
 use Rattle.std.proofs.Common.{sym, ◌∙◌, ap, inl, inr, arith, eqb→eq, T_not}
-use Rattle.lists.specs.Basics.{if◌then◌else◌, Mem}
+use Rattle.lists.specs.Basics.{when◌then◌else◌, Mem}
 use Rattle.lists.specs.Choice.{choose, passes}
 use Rattle.lists.specs.Tests.{→eqb}
 use Rattle.protocol.specs.Record.{round}
@@ -35,7 +35,7 @@ struck_other (k ∷ members) h x ne =
     (λ _. both (struck_other members h x ne))
   where
     both : mark (struck_off members h) x ≡ mark members x → mark (k ∷ struck_off members h) x ≡ mark (k ∷ members) x
-    both e = ap (λ z. if nat_eq k x then 1 else z) e
+    both e = ap (λ z. when nat_eq k x then 1 else z) e
 
 -- taking in
 pub taken_in_same : (members : List ℕ) (h : ℕ) → mark (taken_in members h) h ≡ 1
@@ -48,11 +48,11 @@ taken_in_other members h x ne = mark_tail (struck_off members h) h x ne ∙ stru
 
 -- a marked hub is in the list
 pub marked : (members : List ℕ) (h : ℕ) → mark members h ≡ 1 → Mem h members
-unfolding mark if◌then◌else◌
+unfolding mark when◌then◌else◌
 marked [] h e = absurd (omega arith)
 marked (k ∷ members) h e = go (nat_eq k h) (λ t. eqb→eq k h t) (marked members h) e
   where
-    go : (b : Bool) → (T b → k ≡ h) → (mark members h ≡ 1 → Mem h members) → (if b then 1 else mark members h) ≡ 1 → Mem h (k ∷ members)
+    go : (b : Bool) → (T b → k ≡ h) → (mark members h ≡ 1 → Mem h members) → (when b then 1 else mark members h) ≡ 1 → Mem h (k ∷ members)
     go true f g e = inl (sym (f tt))
     go false f g e = inr (g e)
 

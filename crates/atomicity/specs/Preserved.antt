@@ -12,7 +12,7 @@ use Rattle.std.proofs.Math.Dec.{T, ltb→lt, eqb→eq, nltb→le}
 use Rattle.std.proofs.lemmas.List.{length-map}
 use Rattle.std.proofs.Math.ListN.{get_or-map}
 use Rattle.std.proofs.Math.Seq.{map-set_same}
-use Rattle.lists.specs.Basics.{if◌then◌else◌, Mem}
+use Rattle.lists.specs.Basics.{when◌then◌else◌, Mem}
 use Rattle.lists.specs.Choice.{choose}
 use Rattle.lists.specs.Members.{mem_at, mem_set}
 use Rattle.lists.specs.Search.{Missed, search_ends}
@@ -77,7 +77,7 @@ module _ (n q : ℕ) (h : Row) (r : RowForm n h) (m : Message) (ok : MessageForm
   abbrev Well : Decision → Type 0
   Well d = Sound n q h d
 
-  if_else : (b : Bool) (d : Decision) → (T b → Well d) → Well (if b then d else Refuse NOT_EXPECTED)
+  if_else : (b : Bool) (d : Decision) → (T b → Well d) → Well (when b then d else Refuse NOT_EXPECTED)
   if_else b d f = choose Well b d (Refuse NOT_EXPECTED) f (λ _. refl)
 
   -- the flag is down in every state but 2
@@ -222,7 +222,7 @@ module _ (n q : ℕ) (h : Row) (r : RowForm n h) (m : Message) (ok : MessageForm
       )
 
   -- state 2, lock 1, flag 0: the lock is freed
-  freed : (a : Answer) → Well (if nat_eq h.state INSIDE && nat_eq h.lock 1 && nat_eq h.flag 0 then Reply (kinds.with_lock h 0) a else Refuse NOT_EXPECTED)
+  freed : (a : Answer) → Well (when nat_eq h.state INSIDE && nat_eq h.lock 1 && nat_eq h.flag 0 then Reply (kinds.with_lock h 0) a else Refuse NOT_EXPECTED)
   freed a = if_else (nat_eq h.state INSIDE && nat_eq h.lock 1 && nat_eq h.flag 0) _ λ t.
       let st : h.state ≡ INSIDE = eqb→eq _ INSIDE (and_left (nat_eq h.state INSIDE) (nat_eq h.lock 1) (and_left (nat_eq h.state INSIDE && nat_eq h.lock 1) (nat_eq h.flag 0) t)) in
       let fl : h.flag ≡ 0 = eqb→eq _ 0 (and_right (nat_eq h.state INSIDE && nat_eq h.lock 1) (nat_eq h.flag 0) t) in
@@ -336,7 +336,7 @@ module _ (n q : ℕ) (h : Row) (r : RowForm n h) (m : Message) (ok : MessageForm
       (by 9 _ _ (λ e. leave_retry_sound) (by 10 _ _ (λ e. leave_grant_sound) (by 11 _ _ (λ e. leave_point_sound (names_hub 11 tt (omega arith) e))
       (by 12 _ _ (λ e. update_succ_sound) (by 13 _ _ (λ e. stop_forward_sound) (by 14 _ _ (λ e. freed _) refl)))))))))))))
     where
-      by : (k : ℕ) (x y : Decision) → (m.kind ≡ k → Well x) → Well y → Well (if nat_eq m.kind k then x else y)
+      by : (k : ℕ) (x y : Decision) → (m.kind ≡ k → Well x) → Well y → Well (when nat_eq m.kind k then x else y)
       by k x y f g = choose Well (nat_eq m.kind k) x y (λ t. f (eqb→eq m.kind k t)) (λ _. g)
 
 -- the row of hub t is made v

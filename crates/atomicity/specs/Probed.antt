@@ -5,7 +5,7 @@ use Rattle.std.proofs.Common.{◌∙◌, arith, leb→le, ltb→lt}
 use mathlib.Core.List.{List, [], ◌∷◌, ◌++◌, map}
 use lib.ListN.{length, drop, replicate, length-replicate}
 use Rattle.clockwise.specs.Clockwise.{dist, within}
-use Rattle.lists.specs.Basics.{if◌then◌else◌, require, every, distinct, first, table, flat, All}
+use Rattle.lists.specs.Basics.{when◌then◌else◌, require, every, distinct, first, table, flat, All}
 use Rattle.lists.specs.Text.{codes}
 use Rattle.lists.specs.Members.{all_append}
 use Rattle.lists.specs.Tests.{says_distinct}
@@ -29,7 +29,7 @@ use Rattle.atomicity.specs.Preserved.{step_form, fresh_form}
 use Rattle.atomicity.specs.Demand3.{Call, present, called}
 use Rattle.atomicity.specs.Record.{fresh_gives}
 use Rattle.atomicity.specs.Engines.{call_is}
-use Rattle.atomicity.specs.Probes.{Probe, interval, ring, ring_by, text, outcomes, lines, printed, Passes, ask, join, leave, deliver, quiet, eight_ids, eight_calls, eight_outcomes, intervals, refusals, eight_lines, eight_texts, listing, starred, swapped, asks, named_outcomes, swapped_lines, swapped_texts, foundings, listing_input, listing_output}
+use Rattle.atomicity.specs.Probes.{Probe, interval, ring, ring_by, text, outcomes, lines, printed, Passes, quiet, eight_ids, eight_calls, eight_outcomes, intervals, refusals, eight_lines, eight_texts, listing, starred, swapped, asks, named_outcomes, swapped_lines, swapped_texts, foundings, listing_input, listing_output}
 
 -- The outcomes on the state: these are computed.
 said : Result → Outcome
@@ -136,7 +136,7 @@ unfolding within dist
 intervals_computed = (refl, (refl, (refl, (refl, (refl, (refl, (refl, (refl, (refl, tt)))))))))
 
 refusals_computed : All Computes refusals
-unfolding outcomes_of said left smallest fresh step.step step.ask step.join step.leave step.on_link step.deliver require step.room if◌then◌else◌ first in_ring distinct every
+unfolding outcomes_of said left smallest fresh step.step step.ask step.join step.leave step.on_link step.deliver require step.room when◌then◌else◌ first in_ring distinct every
 refusals_computed = (
   (tt, tt, tt, refl),
   (
@@ -152,16 +152,16 @@ refusals_computed = (
 )
 
 eight_outcomes_lem : Rung eight_ids 0 eight_calls eight_outcomes
-unfolding outcomes_of said left fresh step.step step.ask step.asking step.join step.on_link step.delivered step.deliver require step.conclude step.room if◌then◌else◌ first within dist in_ring responsible covers onward route kinds.grown kinds.lookup_routed kinds.lookup kinds.join_routed kinds.join kinds.join_point kinds.new_succ kinds.handle distinct every
+unfolding outcomes_of said left fresh step.step step.ask step.asking step.join step.on_link step.delivered step.deliver require step.conclude step.room when◌then◌else◌ first within dist in_ring responsible covers onward route kinds.grown kinds.lookup_routed kinds.lookup kinds.join_routed kinds.join kinds.join_point kinds.new_succ kinds.handle distinct every
 eight_outcomes_lem = (tt, tt, tt, refl)
 
 -- hub 0 has the smaller identifier there
 eight_none_named : Rung eight_ids (smallest eight_ids) eight_calls eight_outcomes
-unfolding smallest first every if◌then◌else◌
+unfolding smallest first every when◌then◌else◌
 eight_none_named = eight_outcomes_lem
 
 eight_lines_lem : Told (map codes eight_lines) (map codes eight_texts)
-unfolding text_of codes frame founding command identifiers identifier_at is_digit digit_value read2 read4 read8 require if◌then◌else◌ every table line outcome_text fields_text answer_words digit_of print2 print4 print8
+unfolding text_of codes frame founding command identifiers identifier_at is_digit digit_value read2 read4 read8 require when◌then◌else◌ every table line outcome_text fields_text answer_words digit_of print2 print4 print8
 eight_lines_lem = record {
   ids = eight_ids;
   calls = eight_calls;
@@ -176,7 +176,7 @@ eight_lines_lem = record {
 }
 
 swapped_lines_lem : Told (map codes swapped_lines) (map codes swapped_texts)
-unfolding text_of codes frame founding command identifiers identifier_at is_digit digit_value read2 read4 read8 require if◌then◌else◌ every table line refusal_text outcome_text fields_text answer_words digit_of print2 print4 print8
+unfolding text_of codes frame founding command identifiers identifier_at is_digit digit_value read2 read4 read8 require when◌then◌else◌ every table line refusal_text outcome_text fields_text answer_words digit_of print2 print4 print8
 swapped_lines_lem = record {
   ids = swapped;
   calls = asks;
@@ -191,7 +191,7 @@ swapped_lines_lem = record {
 }
 
 foundings_computed : All Computes foundings
-unfolding outcomes_of said left smallest fresh step.step step.ask step.asking require step.room if◌then◌else◌ first within dist in_ring responsible covers onward route distinct every swapped_lines_lem
+unfolding outcomes_of said left smallest fresh step.step step.ask step.asking require step.room when◌then◌else◌ first within dist in_ring responsible covers onward route distinct every swapped_lines_lem
 foundings_computed = ((tt, tt, tt, refl), ((tt, tt, tt, refl), ((swapped_lines_lem, (tt, tt, tt, refl)), tt)))
 
 -- All of them.
@@ -208,7 +208,7 @@ answers_printed w [] = refl
 answers_printed w (l ∷ lines) = ap (λ z. text_of (line_call w l).printed ++ z) (answers_printed (line_call w l).slice lines)
 
 listing_lines : lines_of [] listing_input ≡ map codes eight_lines
-unfolding lines_of codes if◌then◌else◌
+unfolding lines_of codes when◌then◌else◌
 listing_lines = refl
 
 listing_text : flat (λ l. l) (map codes eight_texts) ≡ listing_output

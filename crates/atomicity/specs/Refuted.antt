@@ -3,7 +3,7 @@
 use Rattle.std.specs.Prelude.{◌≡◌, refl, true, List, [], ◌∷◌, ◌++◌, ℕ, T}
 use Rattle.std.proofs.Common.{sym, ap, subst, inl, arith}
 use Rattle.clockwise.specs.Clockwise.{dist, within}
-use Rattle.lists.specs.Basics.{if◌then◌else◌, require, every, distinct, first, table, Mem}
+use Rattle.lists.specs.Basics.{when◌then◌else◌, require, every, distinct, first, table, Mem}
 use Rattle.lists.specs.Members.{ind_same}
 use Rattle.protocol.specs.declared.Row.{Row}
 use Rattle.protocol.specs.declared.Message.{Message}
@@ -72,12 +72,12 @@ answered_too_early w claims =
 
 -- (c) A question was accepted, and neither answered nor does it wait.
 pub question_lost : Claims present two 0 (asked (Answered Quiet) ∷ []) (ring (alone 0 100) (outside 200) []) → ⊥
-unfolding questions_accepted found_tickets accepted_ask ticket_of waiting if◌then◌else◌
+unfolding questions_accepted found_tickets accepted_ask ticket_of waiting when◌then◌else◌
 question_lost claims = omega (arith, claims.questions, ap (λ z. waiting z.messages) (same (alone 0 100) (outside 200) []))
 
 -- A question was answered that nobody asked.
 pub question_invented : Claims present two 0 (arrived (Answered (Found 0 150 0 1)) ∷ []) (ring (alone 0 100) (outside 200) []) → ⊥
-unfolding questions_accepted found_tickets accepted_ask ticket_of waiting if◌then◌else◌
+unfolding questions_accepted found_tickets accepted_ask ticket_of waiting when◌then◌else◌
 question_invented claims = omega (arith, claims.questions, ap (λ z. waiting z.messages) (same (alone 0 100) (outside 200) []))
 
 -- (d) The question with ticket 7 was answered twice.
@@ -90,11 +90,11 @@ abbrev stranded : State
 stranded = record { rows = alone 0 100 ∷ outside 200 ∷ []; messages = question 0 1 150 0 0 ∷ []; asked = 1 }
 
 well_formed_lem : T (formed stranded)
-unfolding formed distinct every row_ok pointers_ok lock_ok flag_ok message_ok names_node a_ok b_ok hops_ok if◌then◌else◌
+unfolding formed distinct every row_ok pointers_ok lock_ok flag_ok message_ok names_node a_ok b_ok hops_ok when◌then◌else◌
 well_formed_lem = tt
 
 refuses : (called present (words stranded ++ []) (record { operation = 3; x = 0; y = 1 })).outcome ≡ Refused NOT_EXPECTED
-unfolding written step deliver delivered on_link first handle lookup in_ring conclude require if◌then◌else◌
+unfolding written step deliver delivered on_link first handle lookup in_ring conclude require when◌then◌else◌
 refuses =
     ap (λ z. z.outcome) (call_is stranded [] (record { operation = 3; x = 0; y = 1 }) (tested_form stranded (omega arith) (omega arith) (omega arith) well_formed_lem))
 
@@ -105,5 +105,5 @@ question_stranded events claims =
 
 -- One message waits in a record that is cut short: every call is refused.
 pub record_cut : (events : List Event) → Claims present two 0 events (1 ∷ 1 ∷ 1 ∷ 0 ∷ []) → ⊥
-unfolding read table step_call on_record long require if◌then◌else◌
+unfolding read table step_call on_record long require when◌then◌else◌
 record_cut events claims = claims.next (record { kind = 0; from = 0; to = 0; a = 0; b = 0; hops = 0 }) (inl refl) RECORD_SHORT refl

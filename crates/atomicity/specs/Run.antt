@@ -10,7 +10,7 @@ use Rattle.std.proofs.Math.Dec.{ltb→lt}
 use Rattle.std.proofs.Math.ListN.{get_or, take, drop, get_or-map}
 use Rattle.std.proofs.lemmas.List.{length-map}
 use Rattle.std.proofs.Math.Seq.{split_at, append_snoc}
-use Rattle.lists.specs.Basics.{if◌then◌else◌}
+use Rattle.lists.specs.Basics.{when◌then◌else◌}
 use Rattle.lists.specs.Choice.{choose, granted, tested}
 use Rattle.lists.specs.Members.{mem_mid, all_at, get_d_any, by_row}
 use Rattle.lists.specs.Search.{Located, Missed, search_ends}
@@ -118,7 +118,7 @@ module _ (s : State) (ms : List Msg) (same : s.messages ≡ map erase ms) (x y :
 
 -- 1 for an ask
 abbrev pub question : ℕ → ℕ
-question operation = if nat_eq operation 0 then 1 else 0
+question operation = when nat_eq operation 0 then 1 else 0
 
 module _ (id : ℕ → ℕ) (small : (h : ℕ) → id h < round) (c : ℕ) (inj : (a b : ℕ) → a < c → b < c → id a ≡ id b → a ≡ b)
     (s : State) (members ks : List ℕ) (G : Good id c s members ks) where
@@ -169,8 +169,8 @@ module _ (id : ℕ → ℕ) (small : (h : ℕ) → id h < round) (c : ℕ) (inj 
       (λ t. absurd (omega (arith, ltb→lt (oldest s x y) (length s.messages) t, k.end))))
 
   -- an ask takes a ticket, the other commands do not
-  counts : (b : Bool) (x y : Result) → Ok (s.asked + 1) true x → Ok s.asked true y → Ok (s.asked + (if b then 1 else 0)) true (if b then x else y)
-  unfolding if◌then◌else◌
+  counts : (b : Bool) (x y : Result) → Ok (s.asked + 1) true x → Ok s.asked true y → Ok (s.asked + (when b then 1 else 0)) true (when b then x else y)
+  unfolding when◌then◌else◌
   counts true x y f g = f
   counts false x y f g = rw add-zero g
 

@@ -2,7 +2,7 @@
 use Rattle.std.specs.Prelude.{◌≡◌, refl, ◌⊎◌, ◌≢◌, Bool, true, false, List, [], ◌∷◌, ◌++◌, map, ℕ, ◌+◌, ◌≤◌, ◌<◌, T, nat_eq, length, get_or, drop, replicate}
 use Rattle.std.proofs.Common.{sym, ◌∙◌, ap, subst, inl, inr, arith, ltb→lt}
 use Rattle.std.proofs.Math.Decide.{dec_le, ℕ_discrete}
-use Rattle.lists.specs.Basics.{if◌then◌else◌, flat, Mem, All}
+use Rattle.lists.specs.Basics.{when◌then◌else◌, flat, Mem, All}
 use Rattle.lists.specs.Choice.{tested}
 use Rattle.lists.specs.Members.{all_drop, all_append, all_replicate, place}
 use Rattle.lists.specs.Blocks.{all_flat}
@@ -127,10 +127,10 @@ on_map f (refused k) l = tt
 on_map f (accepted a s) l = f l
 
 few_asked : (s : State) (operation x y : ℕ) → s.asked < round → On (λ t. s.asked + question operation < round) (step.step s operation x y)
-unfolding step.step if◌then◌else◌
+unfolding step.step when◌then◌else◌
 few_asked s operation x y l = go (nat_eq operation 0) _ _ (ask_room s x y)
   where
-    go : (b : Bool) (r t : Result) → On (λ z. s.asked < 4294967295) r → On (λ z. s.asked + (if b then 1 else 0) < round) (if b then r else t)
+    go : (b : Bool) (r t : Result) → On (λ z. s.asked < 4294967295) r → On (λ z. s.asked + (when b then 1 else 0) < round) (when b then r else t)
     go true r t k = on_map (λ j. omega arith) r k
     go false r t k = on_all (omega arith) t
 

@@ -9,7 +9,7 @@ use Rattle.std.proofs.Common.{nat_eq}
 use Rattle.std.proofs.Math.Dec.{T}
 use Rattle.std.proofs.Math.ListN.{length, get_or-eq_default}
 use Rattle.clockwise.specs.Laws.{In, within_in}
-use Rattle.lists.specs.Basics.{if◌then◌else◌, Mem, All, times}
+use Rattle.lists.specs.Basics.{when◌then◌else◌, Mem, All, times}
 use Rattle.lists.specs.Members.{mem_at, place, all_mem, distinct_apart}
 use Rattle.lists.specs.Search.{Located, Missed, search_ends}
 use Rattle.lists.specs.Tests.{and_left, and_right, and_both, true_T, T_true, →eqb, Distinct, says_distinct}
@@ -198,11 +198,11 @@ module _ (ids : List ℕ) (small : (h : ℕ) → get_or ids h 0 < round) (inj : 
         (owner_of round id small v lv x.member (H.inv.next h x.low x.member) x.at)
 
     waiting_is : (ms : List Msg) → waiting (map erase ms) ≡ total asks ms
-    unfolding waiting if◌then◌else◌
+    unfolding waiting when◌then◌else◌
     waiting_is [] = refl
     waiting_is (m ∷ ms) = omega (arith, one m, waiting_is ms)
       where
-        one : (m : Msg) → (if nat_eq (erase m).kind LOOKUP then 1 else 0) ≡ asks m
+        one : (m : Msg) → (when nat_eq (erase m).kind LOOKUP then 1 else 0) ≡ asks m
         one (lookup x y v k h) = refl
         one (join x y a) = refl
         one (join_retry x a) = refl
@@ -378,7 +378,7 @@ module _ (ids : List ℕ) (engine : Engine) (L : Laws engine) where
   any_kept members (went a s) = tt
 
   claimed : (founder : ℕ) (events : List Event) (w : List ℕ) → Course ids founder engine L Any events w → Claims engine ids founder events w
-  unfolding step if◌then◌else◌
+  unfolding step when◌then◌else◌
   claimed founder events w r = subst (Claims engine ids founder events) (sym r.is) (record {
     single = λ v h k lv p q. single ids small inj s members r.tickets r.good v h k lv (holds_of h v p) (holds_of k v q);
     owner = λ v h lv p. owner ids small inj s members r.tickets r.good v h lv (holds_of h v p);

@@ -4,7 +4,7 @@ use Rattle.std.proofs.Math.Path.{refl}
 use Rattle.std.proofs.Common.{sym, ◌∙◌, ap, subst, arith}
 use Rattle.std.proofs.Math.Bool.{true, false}
 use mathlib.Core.List.{List, [], ◌∷◌, ◌++◌, map, append_assoc, append-nil}
-use Rattle.lists.specs.Basics.{if◌then◌else◌, require, All}
+use Rattle.lists.specs.Basics.{when◌then◌else◌, require, All}
 use Rattle.lists.specs.Choice.{tested}
 use Rattle.lists.specs.Members.{all_append}
 use Rattle.protocol.specs.declared.Answer.TheVariants.{Quiet}
@@ -132,7 +132,7 @@ module _ (ids : List ℕ) (founder : ℕ) (events : List Event) (b : List ℕ) (
   none = subst (λ l. At ids founder l b) (sym (append-nil events)) r
 
   one_call : (c : CCall) → Passed c → At ids founder (events ++ step_of b c) (called_bytes b c).bytes
-  unfolding step_bytes carried batch_bytes batch_carried batch_call batch_written require if◌then◌else◌ bytes_after
+  unfolding step_bytes carried batch_bytes batch_carried batch_call batch_written require when◌then◌else◌ bytes_after
   one_call (step c out) t = go (nat_le 20 (length out))
     where
       go : (z : Bool) → At ids founder (events ++ require z [] (event b c ∷ [])) (require z (record { code = OUTPUT_SHORT; bytes = b; output = out }) (carried b out (called present (words_of b) c))).bytes

@@ -1,6 +1,7 @@
 // A route's questions on lent bytes (document 02, 2026-06), for `ring_c`: the record and the numbers are loaded, and what the questions left is
 // written back. Asking is done on words that are this call's own, so that no place is half written.
 #![tactic(auto)]
+
 ghost use Rattle.std.specs.Prelude.{◌≡◌};
 ghost use Rattle.protocol.specs.Batch.{batch_bytes};
 

@@ -6,7 +6,7 @@ use Prim.Native.Nat.{ℕ, zero, suc, ◌+◌, ◌*◌, ◌≤◌, ◌<◌}
 use Rattle.std.proofs.Math.ListN.{length}
 use Rattle.std.proofs.Math.Seq.{take-length}
 use Rattle.std.proofs.lemmas.List.{get_or_at}
-use Rattle.lists.specs.Basics.{if◌then◌else◌, flat, All}
+use Rattle.lists.specs.Basics.{when◌then◌else◌, flat, All}
 use Rattle.lists.specs.Members.{all_mem, mem_at}
 use Rattle.lists.specs.Blocks.{flat_split, length_front}
 use Rattle.protocol.specs.declared.Answer.{Answer}
@@ -29,7 +29,7 @@ written_places (Answered a) n = n
 
 -- The count that a place raises, from its first word on: its refusal, then its answer's kind.
 unfoldable pub count_at : List ℕ → ℕ → ℕ
-count_at o at = if nat_eq (get_or o at 0) 0 then get_or o (at + 1) 0 else REFUSAL
+count_at o at = when nat_eq (get_or o at 0) 0 then get_or o (at + 1) 0 else REFUSAL
 
 -- The tally after the first n places.
 unfoldable pub counted_places : Tally → List ℕ → ℕ → Tally
@@ -61,14 +61,14 @@ kind_first (Joined hub) rest = refl
 kind_first (Left hub) rest = refl
 
 place_counts : (o : Outcome) → Told o → (p rest : List ℕ) (at : ℕ) → length p ≡ at → count_at (p ++ (place_words o ++ rest)) at ≡ count_of o
-unfolding count_at count_of place_words Told if◌then◌else◌
+unfolding count_at count_of place_words Told when◌then◌else◌
 place_counts (Refused k) l p rest at e =
     let q : List ℕ = 0 ∷ 0 ∷ 0 ∷ 0 ∷ 0 ∷ rest in
-    ap (λ z. if nat_eq z 0 then get_or (p ++ (k ∷ q)) (at + 1) 0 else REFUSAL) (get_or_at p k q 0 at e)
-    ∙ ap (λ z. if z then get_or (p ++ (k ∷ q)) (at + 1) 0 else REFUSAL) (ne_eqb k 0 (λ z. omega arith))
+    ap (λ z. when nat_eq z 0 then get_or (p ++ (k ∷ q)) (at + 1) 0 else REFUSAL) (get_or_at p k q 0 at e)
+    ∙ ap (λ z. when z then get_or (p ++ (k ∷ q)) (at + 1) 0 else REFUSAL) (ne_eqb k 0 (λ z. omega arith))
 place_counts (Answered a) l p rest at e =
     let q : List ℕ = answer_words a ++ rest in
-    ap (λ z. if nat_eq z 0 then get_or (p ++ (0 ∷ q)) (at + 1) 0 else REFUSAL) (get_or_at p 0 q 0 at e)
+    ap (λ z. when nat_eq z 0 then get_or (p ++ (0 ∷ q)) (at + 1) 0 else REFUSAL) (get_or_at p 0 q 0 at e)
     ∙ ap (λ z. get_or (p ++ (0 ∷ q)) (z + 1) 0) (sym e) ∙ get_or-append-add p (0 ∷ q) 1 0 ∙ kind_first a rest
 
 -- one question more, at the end

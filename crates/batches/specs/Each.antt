@@ -4,7 +4,7 @@ use Rattle.std.proofs.Math.Path.{ap}
 use Rattle.std.proofs.Common.{sym, ◌∙◌, append_assoc, append-nil, arith, add-one, take-suc, drop-drop, le-leb}
 use Rattle.std.proofs.Math.Seq.{take-length, length-take-le}
 use Rattle.std.proofs.lemmas.Bool.{lt-leb}
-use Rattle.lists.specs.Basics.{if◌then◌else◌, flat}
+use Rattle.lists.specs.Basics.{when◌then◌else◌, flat}
 use Rattle.lists.specs.Choice.{on_yes, on_no}
 use Rattle.lists.specs.Blocks.{flat_append, length_flat}
 use Rattle.lists.specs.Splice.{splice, splice_at}
@@ -40,7 +40,7 @@ ask_last w hub (u ∷ numbers) v = ap (in_front (step_call w 0 hub u).outcome) (
 
 -- a question on a valid record, which stays valid
 pub ask_valid : (w : List ℕ) → Valid w → (hub v : ℕ) → step_call w 0 hub v ≡ written w (ask (read w) hub v)
-unfolding step_call step if◌then◌else◌
+unfolding step_call step when◌then◌else◌
 ask_valid w v hub number = record_rest w (turned_down w) _ v.long v.formed
 
 pub each_valid : (w : List ℕ) → Valid w → (hub : ℕ) (numbers : List ℕ) → Again w (ask_each w hub numbers).slice

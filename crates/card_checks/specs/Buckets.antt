@@ -8,7 +8,7 @@ use Prim.Native.Nat.{ℕ, zero, suc, ◌+◌, ◌-◌, ◌*◌, ◌/◌, ◌%◌
 use Rattle.std.proofs.Math.Decide.{dec_le, ℕ_discrete}
 use native.Mathlib.Omega.{arith}
 use Rattle.std.proofs.Math.Dec.{T, T_not}
-use Rattle.lists.specs.Basics.{if◌then◌else◌, Mem, every, distinct, table}
+use Rattle.lists.specs.Basics.{when◌then◌else◌, Mem, every, distinct, table}
 use Rattle.lists.specs.Choice.{choose}
 use Rattle.lists.specs.Members.{mem_at, place, filled}
 use Rattle.lists.specs.Tests.{says_every, says_not, says_eq, T_true, →eqb}
@@ -33,7 +33,7 @@ bucket_below v = mod-lt (v * 2654435769 / 4194304) (omega arith)
 -- one more than the last place below i whose number is in bucket b, or 0
 unfoldable pub last : (ℕ → ℕ) → ℕ → ℕ → ℕ
 last f b zero = 0
-last f b (suc i) = if nat_eq (bucket_of (f i)) b then suc i else last f b i
+last f b (suc i) = when nat_eq (bucket_of (f i)) b then suc i else last f b i
 
 pub last_none : (f : ℕ → ℕ) (b : ℕ) → last f b 0 ≡ 0
 unfolding last
@@ -101,7 +101,7 @@ module _ (f : ℕ → ℕ) (i : ℕ) where
 pub distinct_more : (f : ℕ → ℕ) (i : ℕ) → distinct (table (i + 1) f) ≡ (distinct (table i f) && unmet f i)
 unfolding unmet
 distinct_more f i =
-    sym (merged_next f i (merged i (λ j. if unlike (f j) (f i) then 0 else 1)) refl)
+    sym (merged_next f i (merged i (λ j. when unlike (f j) (f i) then 0 else 1)) refl)
     ∙ ap (λ z. distinct (table i f) && z) (merged_test _ (λ y. unlike y (f i)) f i (λ j l. failure_test (unlike (f j) (f i))))
 
 -- A repeated number stays one, however many follow.

@@ -8,7 +8,7 @@ use Rattle.std.proofs.Math.Numerals.{unary_clauses}
 use native.Mathlib.Omega.{arith}
 use Rattle.std.proofs.Common.{nat_eq}
 use Rattle.std.proofs.Math.Dec.{eqb→eq, T_not}
-use Rattle.lists.specs.Basics.{if◌then◌else◌, distinct, table}
+use Rattle.lists.specs.Basics.{when◌then◌else◌, distinct, table}
 use Rattle.lists.specs.Choice.{choose, passes}
 use Rattle.lists.specs.Members.{filled}
 use Rattle.lists.specs.Tests.{→eqb}
@@ -18,7 +18,7 @@ use Rattle.card_checks.specs.Buckets.{unmet, unmet_yes, unmet_no, distinct_more,
 -- one more than the first place below n at which s is b, or 0
 unfoldable pub first_in : (ℕ → ℕ) → ℕ → ℕ → ℕ
 first_in s b zero = 0
-first_in s b (suc n) = if nat_eq (first_in s b n) 0 then (if nat_eq (s n) b then suc n else 0) else first_in s b n
+first_in s b (suc n) = when nat_eq (first_in s b n) 0 then (when nat_eq (s n) b then suc n else 0) else first_in s b n
 
 module _ (s : ℕ → ℕ) (b : ℕ) where
   -- what the first place says
@@ -31,9 +31,9 @@ module _ (s : ℕ → ℕ) (b : ℕ) where
   first_says zero = record { at = λ q e. absurd (omega arith); none = λ e j l. absurd (omega arith) }
   first_says (suc n) = go (first_says n)
     where
-      go : First n (first_in s b n) → First (suc n) (if nat_eq (first_in s b n) 0 then (if nat_eq (s n) b then suc n else 0) else first_in s b n)
+      go : First n (first_in s b n) → First (suc n) (when nat_eq (first_in s b n) 0 then (when nat_eq (s n) b then suc n else 0) else first_in s b n)
       go f =
-          choose (First (suc n)) (nat_eq (first_in s b n) 0) (if nat_eq (s n) b then suc n else 0) (first_in s b n)
+          choose (First (suc n)) (nat_eq (first_in s b n) 0) (when nat_eq (s n) b then suc n else 0) (first_in s b n)
           (λ z. choose (First (suc n)) (nat_eq (s n) b) (suc n) 0
           (λ t. record { at = λ q e. (let i : q ≡ n = omega arith in (omega arith, ap s i ∙ eqb→eq _ b t)); none = λ e. absurd (omega arith) })
           (λ t. record {
@@ -50,15 +50,15 @@ module _ (s : ℕ → ℕ) (b : ℕ) where
   unfolding first_in
   first_other n ne =
       ap (first_in s b) (add-one n)
-      ∙ choose (λ z. z ≡ first_in s b n) (nat_eq (first_in s b n) 0) (if nat_eq (s n) b then suc n else 0) (first_in s b n)
+      ∙ choose (λ z. z ≡ first_in s b n) (nat_eq (first_in s b n) 0) (when nat_eq (s n) b then suc n else 0) (first_in s b n)
       (λ z. choose (λ y. y ≡ first_in s b n) (nat_eq (s n) b) (suc n) 0 (λ t. absurd (ne (eqb→eq _ b t))) (λ _. sym (eqb→eq _ 0 z)))
       (λ _. refl)
 
-  pub first_here : (n : ℕ) → s n ≡ b → first_in s b (n + 1) ≡ (if nat_eq (first_in s b n) 0 then n + 1 else first_in s b n)
+  pub first_here : (n : ℕ) → s n ≡ b → first_in s b (n + 1) ≡ (when nat_eq (first_in s b n) 0 then n + 1 else first_in s b n)
   unfolding first_in
   first_here n e =
       ap (first_in s b) (add-one n)
-      ∙ ap (λ z. if nat_eq (first_in s b n) 0 then z else first_in s b n) (passes (λ z. z ≡ n + 1) (nat_eq (s n) b) (suc n) 0 (→eqb (s n) b e) (sym (add-one n)))
+      ∙ ap (λ z. when nat_eq (first_in s b n) 0 then z else first_in s b n) (passes (λ z. z ≡ n + 1) (nat_eq (s n) b) (suc n) 0 (→eqb (s n) b e) (sym (add-one n)))
 
   -- once it is found, it stays
   pub first_stays : (i n : ℕ) → i ≤ n → 0 < first_in s b i → first_in s b n ≡ first_in s b i
@@ -70,7 +70,7 @@ module _ (s : ℕ → ℕ) (b : ℕ) where
       go (yes e) h = ap (first_in s b) (sym e)
       go (no e) h =
           let q = h (omega arith) in
-          choose (λ z. z ≡ first_in s b i) (nat_eq (first_in s b n) 0) (if nat_eq (s n) b then suc n else 0) (first_in s b n)
+          choose (λ z. z ≡ first_in s b i) (nat_eq (first_in s b n) 0) (when nat_eq (s n) b then suc n else 0) (first_in s b n)
           (λ t. absurd (omega (arith, eqb→eq (first_in s b n) 0 t))) (λ _. q)
 
 -- a place is at the first of its kind, or behind it
@@ -134,7 +134,7 @@ module _ (m : ℕ) (rest groups : List ℕ) where
 
   pub parting_more : (i slot first : ℕ) (rest' groups' slots : List ℕ) → Parting m i rest groups rest' groups' slots → i < m
       → i < length rest' → i < length groups' → length slots ≡ slot_count → slot < slot_count
-      → slot ≡ get_or groups' i 0 * 16 + get_or rest' i 0 % 16 → first ≡ (if nat_eq (get_or slots slot 0) 0 then i + 1 else get_or slots slot 0)
+      → slot ≡ get_or groups' i 0 * 16 + get_or rest' i 0 % 16 → first ≡ (when nat_eq (get_or slots slot 0) 0 then i + 1 else get_or slots slot 0)
       → Parting m (i + 1) rest groups (set rest' i (get_or rest' i 0 / 16)) (set groups' i first) (set slots slot first)
   parting_more i slot first rest' groups' slots P l lr lg size ls es ef = record {
     groups_are = filled groups' i first 0 (λ j. first_in s (s j) m) lg (label ∙ sym stays) P.groups_are;
@@ -152,7 +152,7 @@ module _ (m : ℕ) (rest groups : List ℕ) where
 
       label : first ≡ first_in s (s i) (i + 1)
       label =
-          ef ∙ ap (λ z. if nat_eq z 0 then i + 1 else z) (P.slots_are slot ls ∙ ap (λ z. first_in s z i) is)
+          ef ∙ ap (λ z. when nat_eq z 0 then i + 1 else z) (P.slots_are slot ls ∙ ap (λ z. first_in s z i) is)
           ∙ sym (first_here s (s i) i refl)
 
       stays : first_in s (s i) m ≡ first_in s (s i) (i + 1)
@@ -236,12 +236,12 @@ meets f n i j k l e = distinct_fails f (i + 1) n (distinct_more f i ∙ ap (λ z
 
 -- How many cards do not lead their groups, as the code tells it.
 abbrev pub following : ℕ → List ℕ → ℕ
-following m groups = merged m (λ i. if nat_eq (get_or groups i 0) (i + 1) then 0 else 1)
+following m groups = merged m (λ i. when nat_eq (get_or groups i 0) (i + 1) then 0 else 1)
 
 all_lead : (m : ℕ) (groups : List ℕ) → following m groups ≡ 0 → (i : ℕ) → i < m → get_or groups i 0 ≡ i + 1
 all_lead m groups e i l =
     choose (λ z. z ≡ 0 → get_or groups i 0 ≡ i + 1) (nat_eq (get_or groups i 0) (i + 1)) 0 1 (λ t _. eqb→eq _ _ t) (λ _ q. absurd (omega (arith, q)))
-    (merged_each (λ i. if nat_eq (get_or groups i 0) (i + 1) then 0 else 1) m e i l)
+    (merged_each (λ i. when nat_eq (get_or groups i 0) (i + 1) then 0 else 1) m e i l)
 
 none_follows : (m : ℕ) (groups : List ℕ) → ((i : ℕ) → i < m → get_or groups i 0 ≡ i + 1) → following m groups ≡ 0
 none_follows m groups h = each_merged _ m (λ i l. passes (λ (z : ℕ). z ≡ 0) (nat_eq (get_or groups i 0) (i + 1)) 0 1 (→eqb _ _ (h i l)) refl)

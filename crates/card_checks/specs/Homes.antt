@@ -1,5 +1,5 @@
 -- Who owns a machine, as the code finds it: by tables of identifiers and of each hub's reach. Assumes nothing.
-use Rattle.std.specs.Prelude.{◌≡◌, refl, ◌⊎◌, ◌≢◌, List, nat_le, nat_lt, nat_eq, length, replicate}
+use Rattle.std.specs.Prelude.{◌≡◌, refl, ◌⊎◌, List, nat_le, nat_lt, nat_eq, length, replicate}
 use Rattle.std.proofs.Common.{sym, ◌∙◌, ap, subst, inl, inr, mod-eq_of_lt, arith, leb→le, le→leb, eqb→eq}
 use mathlib.Core.Bool.{Bool, true, false, ◌&&◌}
 use Prim.Native.Nat.{ℕ, zero, suc, ◌+◌, ◌%◌, ◌≤◌, ◌<◌}
@@ -8,7 +8,7 @@ use Rattle.std.proofs.Math.ListN.{get_or, get_or-map}
 use Rattle.std.proofs.lemmas.List.{length-map}
 use Rattle.clockwise.specs.Clockwise.{dist}
 use Rattle.clockwise.specs.Laws.{dist_lt}
-use Rattle.lists.specs.Basics.{if◌then◌else◌, first, every, table}
+use Rattle.lists.specs.Basics.{when◌then◌else◌, first, every, table}
 use Rattle.lists.specs.Choice.{choose, passes}
 use Rattle.lists.specs.Members.{distinct_apart}
 use Rattle.lists.specs.Search.{Located, Missed, search_ends}
@@ -57,7 +57,7 @@ at_home names marks reaches v hub =
 
 -- The distance of the nearest member, and who that is.
 unfoldable pub far_to : List ℕ → List ℕ → ℕ → ℕ → ℕ
-far_to names marks v m = if nat_eq (get_or marks m 0) 1 then dist round v (get_or names m 0) else top
+far_to names marks v m = when nat_eq (get_or marks m 0) 1 then dist round v (get_or names m 0) else top
 
 unfoldable pub closest : List ℕ → List ℕ → ℕ → ℕ
 closest names marks v = least (far_to names marks v) (length marks)
@@ -80,13 +80,13 @@ attained f (suc n) =
 least_cong : (f g : ℕ → ℕ) (n : ℕ) → ((i : ℕ) → f i ≡ g i) → least f n ≡ least g n
 unfolding least
 least_cong f g zero e = refl
-least_cong f g (suc n) e = ap (λ z. if nat_le z (f n) then z else f n) (least_cong f g n e) ∙ ap (λ z. if nat_le (least g n) z then least g n else z) (e n)
+least_cong f g (suc n) e = ap (λ z. when nat_le z (f n) then z else f n) (least_cong f g n e) ∙ ap (λ z. when nat_le (least g n) z then least g n else z) (e n)
 
 -- the code's reach is that by the ring's identifiers
 pub reach_same : (ids names marks : List ℕ) → Copied names ids → (h : ℕ) → reach names marks h ≡ reach ids marks h
 unfolding reach gap_to
 reach_same ids names marks C h = least_cong (gap_to names marks h) (gap_to ids marks h) (length marks)
-    (λ m. ap (λ z. if nat_eq (get_or marks m 0) 1 then gap z (get_or names h 0) else top) (C.at m) ∙ ap (λ z. if nat_eq (get_or marks m 0) 1 then gap (get_or ids m 0) z else top) (C.at h))
+    (λ m. ap (λ z. when nat_eq (get_or marks m 0) 1 then gap z (get_or names h 0) else top) (C.at m) ∙ ap (λ z. when nat_eq (get_or marks m 0) 1 then gap (get_or ids m 0) z else top) (C.at h))
 
 module _ (ids names marks : List ℕ) (N : Names ids) (C : Copied names ids) (M : MarksForm (length ids) marks) where
   abbrev id : ℕ → ℕ
@@ -172,7 +172,7 @@ module _ (ids names marks : List ℕ) (N : Names ids) (C : Copied names ids) (M 
 pub homes_law : (ids names marks : List ℕ) → Names ids → Copied names ids → MarksForm (length ids) marks → length marks ≡ most_nodes
     → (reaches : List ℕ) → ((h : ℕ) → Marked marks h → get_or reaches h 0 ≡ reach names marks h)
     → (k : List ℕ) → ((i : ℕ) → get_or k i 0 < round) → (m r : ℕ)
-    → r ≡ merged m (λ j. if at_home names marks reaches (get_or k (card_start j) 0) (get_or k (card_start j + 3) 0) then 0 else 1)
+    → r ≡ merged m (λ j. when at_home names marks reaches (get_or k (card_start j) 0) (get_or k (card_start j + 3) 0) then 0 else 1)
     → nat_eq r 0 ≡ every (λ c. nat_eq c.hub (home ids (marked marks) c.machine)) (table m (λ j. card_from k (card_start j)))
 homes_law ids names marks N C M size reaches t k small m r e =
     ap (λ z. nat_eq z 0) e

@@ -1,10 +1,10 @@
 -- What the tests of the marks say. Assumes nothing.
-use Rattle.std.specs.Prelude.{◌≡◌, refl, ◌⊎◌, ◌≢◌, List, [], ◌∷◌, ℕ, suc, ◌+◌, ◌-◌, ◌≤◌, ◌<◌, T, nat_le, nat_lt, nat_eq, length, get_or, set, take, drop}
+use Rattle.std.specs.Prelude.{◌≡◌, refl, ◌⊎◌, List, [], ◌∷◌, ℕ, suc, ◌+◌, ◌-◌, ◌≤◌, ◌<◌, T, nat_le, nat_lt, nat_eq, length, get_or, set, take, drop}
 use Rattle.std.proofs.Common.{sym, ◌∙◌, ap, inl, inr, arith, eqb→eq, T_not, length-drop, length-take, length-set, get_or-drop, get_or-take, get_or-set_same, get_or-set_other, take-add, drop-drop, drop_at, length-take-le}
 use mathlib.Core.Bool.{Bool, true, false, not, ◌&&◌}
 use Rattle.std.proofs.Math.Decide.{dec_lt, ℕ_discrete}
 use Rattle.std.proofs.Math.Seq.{take-length}
-use Rattle.lists.specs.Basics.{table, if◌then◌else◌, Mem, every}
+use Rattle.lists.specs.Basics.{table, when◌then◌else◌, Mem, every}
 use Rattle.lists.specs.Blocks.{table_of}
 use Rattle.lists.specs.Choice.{choose}
 use Rattle.lists.specs.Members.{mem_at, place}
@@ -122,14 +122,14 @@ later_marks k n h l =
     ∙ ap (λ z. drop n (take z (drop 1 k))) q
 
 -- merged failures of a list's elements
-pub merged_every : (q : ℕ → Bool) (l : List ℕ) (r : ℕ) → r ≡ merged (length l) (λ i. if q (get_or l i 0) then 0 else 1) → nat_eq r 0 ≡ every q l
+pub merged_every : (q : ℕ → Bool) (l : List ℕ) (r : ℕ) → r ≡ merged (length l) (λ i. when q (get_or l i 0) then 0 else 1) → nat_eq r 0 ≡ every q l
 merged_every q l r e =
     ap (λ z. nat_eq z 0) e
     ∙ merged_test _ q (λ i. get_or l i 0) (length l) (λ i h. failure_test (q (get_or l i 0)))
     ∙ ap (every q) (table_of l 0 (λ i. get_or l i 0) (length l) (omega arith) (λ i h. refl) ∙ take-length l)
 
 pub marks_code : (k : List ℕ) (n : ℕ) → n ≤ most_nodes → book_size ≤ length k → (b r z : ℕ)
-    → b ≡ merged (length (marks_in k)) (λ i. if nat_lt (get_or (marks_in k) i 0) 2 then 0 else 1)
+    → b ≡ merged (length (marks_in k)) (λ i. when nat_lt (get_or (marks_in k) i 0) 2 then 0 else 1)
     → nat_eq r 0 ≡ every (λ x. nat_eq x 0) (marks_in k)
     → nat_eq z 0 ≡ every (λ x. nat_eq x 0) (take (65 - (1 + n)) (drop (1 + n) k))
     → (nat_eq b 0 && not (nat_eq r 0) && nat_eq z 0) ≡ marks_ok n (marks_in k)
@@ -137,7 +137,7 @@ marks_code k n h l b r z eb er ez =
     marks_law n (marks_in k) (nat_eq b 0) r z (merged_every (λ x. nat_lt x 2) (marks_in k) b eb) er (ez ∙ ap (every (λ x. nat_eq x 0)) (later_marks k n h l))
 
 -- the marks of the other hubs, merged
-pub others_law : (marks : List ℕ) (h r : ℕ) → r ≡ merged (length marks) (λ i. if not (nat_eq i h) then get_or marks i 0 else 0)
+pub others_law : (marks : List ℕ) (h r : ℕ) → r ≡ merged (length marks) (λ i. when not (nat_eq i h) then get_or marks i 0 else 0)
     → nat_eq r 0 ≡ every (λ x. nat_eq x 0) (set marks h 0)
 others_law marks h r e =
     ap (λ z. nat_eq z 0) e
@@ -146,7 +146,7 @@ others_law marks h r e =
     ∙ ap (λ z. every (λ x. nat_eq x 0) (table z (λ i. get_or (set marks h 0) i 0))) (sym (length-set marks h 0))
     ∙ ap (every (λ x. nat_eq x 0)) (table_of (set marks h 0) 0 (λ i. get_or (set marks h 0) i 0) (length (set marks h 0)) (omega arith) (λ i l. refl) ∙ take-length (set marks h 0))
   where
-    one : (i : ℕ) → i < length marks → (if not (nat_eq i h) then get_or marks i 0 else 0) ≡ get_or (set marks h 0) i 0
+    one : (i : ℕ) → i < length marks → (when not (nat_eq i h) then get_or marks i 0 else 0) ≡ get_or (set marks h 0) i 0
     one i l = choose (λ z. z ≡ get_or (set marks h 0) i 0) (not (nat_eq i h)) (get_or marks i 0) 0
         (λ t. sym (get_or-set_other marks h i 0 0 (λ q. T_not (nat_eq i h) t (→eqb i h q))))
         (λ t. let q = eqb→eq i h (not_not (nat_eq i h) t) in sym (ap (λ z. get_or (set marks h 0) z 0) q ∙ get_or-set_same marks h 0 0 (omega (arith, q))))

@@ -3,7 +3,7 @@ use Rattle.std.specs.Prelude.{◌≡◌, refl, List, ℕ, ◌+◌, ◌%◌, ◌�
 use Rattle.std.proofs.Common.{sym, ◌∙◌, ap₂, subst, mod-lt, arith, eqb→eq}
 use Rattle.std.proofs.Math.Decide.{dec_lt}
 use Rattle.std.proofs.Math.ListN.{get_or-eq_default}
-use Rattle.lists.specs.Basics.{if◌then◌else◌}
+use Rattle.lists.specs.Basics.{when◌then◌else◌}
 use Rattle.lists.specs.Choice.{choose, passes}
 use Rattle.lists.specs.Merge.{merged, merged_each}
 use Rattle.lists.specs.Tests.{→eqb}
@@ -25,11 +25,11 @@ gap_back w names h = gap (get_or names (pred_of w h) 0) (get_or names h 0)
 
 -- 1 where the pred of a member is no member.
 abbrev pub strange : List ℕ → List ℕ → ℕ → ℕ
-strange w marks h = if nat_eq (get_or marks h 0) 1 then (if nat_eq (get_or marks (pred_of w h) 0) 1 then 0 else 1) else 0
+strange w marks h = when nat_eq (get_or marks h 0) 1 then (when nat_eq (get_or marks (pred_of w h) 0) 1 then 0 else 1) else 0
 
 -- What h adds to the circle.
 abbrev pub arc_back : List ℕ → List ℕ → List ℕ → ℕ → ℕ
-arc_back w names marks h = if nat_eq (get_or marks h 0) 1 then gap_back w names h + 1 else 0
+arc_back w names marks h = when nat_eq (get_or marks h 0) 1 then gap_back w names h + 1 else 0
 
 pub preds_law : (ids names marks w reaches : List ℕ) (n : ℕ) → Names ids → Copied names ids → length ids ≡ n → MarksForm n marks → length marks ≡ most_nodes → n ≤ most_nodes
     → ((h : ℕ) → h < n → get_or reaches h 0 ≡ gap_back w names h) → merged n (strange w marks) ≡ 0 → total (arc_back w names marks) n ≡ round
@@ -45,7 +45,7 @@ preds_law ids names marks w reaches n N C size M all few are none circle h k =
     pred_marked x m = record {
       below = omega (arith, mod-lt (get_or w (row_start x + 4) 0) {m = 64} (omega arith));
       at = choose (λ z. z ≡ 0 → get_or marks (pred_of w x) 0 ≡ 1) (nat_eq (get_or marks (pred_of w x) 0) 1) 0 1 (λ t _. eqb→eq _ 1 t) (λ _ q. absurd (omega (arith, q)))
-          (sym (passes (λ z. z ≡ (if nat_eq (get_or marks (pred_of w x) 0) 1 then 0 else 1)) (nat_eq (get_or marks x 0) 1) _ 0 (→eqb _ 1 m.at) refl) ∙ merged_each (strange w marks) n none x (M.below x m));
+          (sym (passes (λ z. z ≡ (when nat_eq (get_or marks (pred_of w x) 0) 1 then 0 else 1)) (nat_eq (get_or marks x 0) 1) _ 0 (→eqb _ 1 m.at) refl) ∙ merged_each (strange w marks) n none x (M.below x m));
     }
 
     enough : (x : ℕ) → Marked marks x → reach ids marks x ≤ gap_back w names x

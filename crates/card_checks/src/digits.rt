@@ -2,7 +2,7 @@
 // parts the groups by four bits more. The first groups are by nine bits, so six passes are the most. Linear in the cards, whatever their machines are.
 // `rest` has what is left of each machine, `groups` the name of each card's group: those nine bits, and after a pass one more than its first card.
 ghost use Rattle.std.specs.Prelude.{◌≡◌, ℕ, ◌+◌, ◌/◌, ◌%◌, ◌≤◌, ◌<◌, nat_eq, length, get_or, set};
-ghost use Rattle.lists.specs.Basics.{if◌then◌else◌, table, distinct};
+ghost use Rattle.lists.specs.Basics.{when◌then◌else◌, table, distinct};
 ghost use Rattle.lists.specs.Merge.{merged};
 ghost use Rattle.protocol.specs.Cards.{most_cards, book_size, card_start};
 ghost use Rattle.card_checks.specs.Digits.{slot_count, Parted, Grouped};
@@ -31,7 +31,7 @@ fn cut_machines(k: &[u32], m: usize, rest: &mut [u32], groups: &mut [u32])
 // all cards come to the same one, each would have to wait for the word that the card before it wrote.
 fn first_come(slots: &mut [u16], slot: usize, i: usize) -> u16
     requires { (slot < length slots.old) × (i < most_cards) }
-    ensures { (result ≡ (if nat_eq (get_or slots.old slot 0) 0 then i + 1 else get_or slots.old slot 0)) × (slots.new ≡ set slots.old slot result) }
+    ensures { (result ≡ (when nat_eq (get_or slots.old slot 0) 0 then i + 1 else get_or slots.old slot 0)) × (slots.new ≡ set slots.old slot result) }
 {
     let seen = slots[slot];
     if seen == 0 {
@@ -69,7 +69,7 @@ fn part_once(rest: &mut [u32], groups: &mut [u32], m: usize)
 // 0 where each of the first m cards is the first of its group.
 fn followers(groups: &[u32], m: usize) -> u32
     requires { (m ≤ most_cards) × (m ≤ length groups.now) }
-    ensures { result ≡ merged m (λ i. if nat_eq (get_or groups.now i 0) (i + 1) then 0 else 1) }
+    ensures { result ≡ merged m (λ i. when nat_eq (get_or groups.now i 0) (i + 1) then 0 else 1) }
 {
     let mut bad: u32 = 0;
     let mut i = 0;

@@ -1,5 +1,6 @@
 // Is the card slice well formed beside its record (document 02, 2026-04)? And who owns a machine among the members.
 #![tactic(auto)]
+
 mod buckets;
 mod content;
 mod digits;

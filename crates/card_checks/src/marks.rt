@@ -1,6 +1,6 @@
 // The marks: words 1 to 64, 1 for each member.
 ghost use Rattle.std.specs.Prelude.{◌≡◌, not, ◌≤◌, ◌<◌, nat_lt, nat_eq, length, get_or};
-ghost use Rattle.lists.specs.Basics.{if◌then◌else◌};
+ghost use Rattle.lists.specs.Basics.{when◌then◌else◌};
 ghost use Rattle.lists.specs.Merge.{merged};
 ghost use Rattle.protocol.specs.Record.{most_nodes};
 ghost use Rattle.protocol.specs.Cards.{book_size, marks_in, marks_ok};
@@ -11,7 +11,7 @@ use wellformed::bad_zeros;
 
 // 0 where every word of the part is 0 or 1.
 fn bad_bits(part: &[u32]) -> u32
-    ensures { result ≡ merged (length part.now) (λ i. if nat_lt (get_or part.now i 0) 2 then 0 else 1) }
+    ensures { result ≡ merged (length part.now) (λ i. when nat_lt (get_or part.now i 0) 2 then 0 else 1) }
 {
     let mut bad: u32 = 0;
     let mut i = 0;
@@ -35,7 +35,7 @@ pub(crate) fn marks_ok(k: &[u32], n: u32) -> bool
 
 // 0 where no node but h is marked.
 pub fn others(marks: &[u32], h: usize) -> u32
-    ensures { result ≡ merged (length marks.now) (λ i. if not (nat_eq i h) then get_or marks.now i 0 else 0) }
+    ensures { result ≡ merged (length marks.now) (λ i. when not (nat_eq i h) then get_or marks.now i 0 else 0) }
 {
     let mut all: u32 = 0;
     let mut i = 0;

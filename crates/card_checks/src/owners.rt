@@ -1,6 +1,6 @@
 // Who owns a machine among the members: tables of the identifiers and of how far each node's numbers reach back.
 ghost use Rattle.std.specs.Prelude.{◌≡◌, ℕ, ◌+◌, ◌≤◌, ◌<◌, nat_le, length, get_or};
-ghost use Rattle.lists.specs.Basics.{if◌then◌else◌, first};
+ghost use Rattle.lists.specs.Basics.{when◌then◌else◌, first};
 ghost use Rattle.lists.specs.Merge.{merged};
 ghost use Rattle.protocol.specs.Record.{most_nodes, record_size, row_start, read};
 ghost use Rattle.protocol.specs.WellFormed.{identifiers};
@@ -16,7 +16,7 @@ use protocol::form::{ROW_WORDS, ROWS_AT};
 const TOP: u32 = 4294967295;
 
 fn lesser(a: u32, b: u32) -> u32
-    ensures { result ≡ (if nat_le a b then a else b) }
+    ensures { result ≡ (when nat_le a b then a else b) }
 {
     if a <= b {
         return a;
@@ -25,7 +25,7 @@ fn lesser(a: u32, b: u32) -> u32
 }
 
 pub fn pick_word(test: bool, a: u32, b: u32) -> u32
-    ensures { result ≡ (if test then a else b) }
+    ensures { result ≡ (when test then a else b) }
 {
     if test {
         return a;
@@ -73,7 +73,7 @@ pub(crate) fn fill_reaches(names: &[u32], marks: &[u32], n: usize, reaches: &mut
 // 1 where the card at a place is not with its owner.
 fn stray(k: &[u32], at: usize, names: &[u32], marks: &[u32], reaches: &[u32]) -> u32
     requires { (at + 4 ≤ length k.now) × (most_nodes ≤ length names.now) × (most_nodes ≤ length marks.now) × (most_nodes ≤ length reaches.now) }
-    ensures { result ≡ (if at_home names.now marks.now reaches.now (get_or k.now at 0) (get_or k.now (at + 3) 0) then 0 else 1) }
+    ensures { result ≡ (when at_home names.now marks.now reaches.now (get_or k.now at 0) (get_or k.now (at + 3) 0) then 0 else 1) }
 {
     let hub = k[at + 3];
     let slot = (hub % 64) as usize;
@@ -84,7 +84,7 @@ fn stray(k: &[u32], at: usize, names: &[u32], marks: &[u32], reaches: &[u32]) ->
 // 0 where each of the m cards is with its owner.
 pub(crate) fn strays(k: &[u32], m: usize, names: &[u32], marks: &[u32], reaches: &[u32]) -> u32
     requires { (m ≤ most_cards) × (book_size ≤ length k.now) × (most_nodes ≤ length names.now) × (most_nodes ≤ length marks.now) × (most_nodes ≤ length reaches.now) }
-    ensures { result ≡ merged m (λ j. if at_home names.now marks.now reaches.now (get_or k.now (card_start j) 0) (get_or k.now (card_start j + 3) 0) then 0 else 1) }
+    ensures { result ≡ merged m (λ j. when at_home names.now marks.now reaches.now (get_or k.now (card_start j) 0) (get_or k.now (card_start j + 3) 0) then 0 else 1) }
 {
     let mut bad: u32 = 0;
     let mut j = 0;

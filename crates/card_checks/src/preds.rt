@@ -1,7 +1,7 @@
 // Reaches out of the record: each member's gap back to its pred. Where these preds are members, and the gaps go round the circle just once, none of
 // them is too wide (cardlayout/specs/Circle.antt). So it is in every record that a ring reaches, but where a JOINPOINT waits: then they are searched.
 ghost use Rattle.std.specs.Prelude.{◌≡◌, true, List, ℕ, ◌+◌, ◌≤◌, length, get_or};
-ghost use Rattle.lists.specs.Basics.{if◌then◌else◌};
+ghost use Rattle.lists.specs.Basics.{when◌then◌else◌};
 ghost use Rattle.protocol.specs.Record.{most_nodes, record_size};
 ghost use Rattle.layout.specs.Owners.{Names};
 ghost use Rattle.cardlayout.specs.Marks.{Marked};
@@ -18,7 +18,7 @@ const PRED_AT: usize = 4;
 
 // What a node adds to the circle: its numbers, if it is a member.
 fn arc(member: bool, far: u32) -> u64
-    ensures { (result ≡ (if member then far + 1 else 0)) × (result ≤ 4294967296) }
+    ensures { (result ≡ (when member then far + 1 else 0)) × (result ≤ 4294967296) }
 {
     if member {
         return far as u64 + 1;

@@ -4,7 +4,7 @@ use Rattle.std.proofs.Math.Path.{sym, ap}
 use Rattle.std.proofs.Common.{◌∙◌, arith, lt-ltb, le-ltb, eq-eqb, ne_eqb}
 use Rattle.std.proofs.Common.{nat_lt}
 use Rattle.std.proofs.Math.ListN.{set, drop}
-use Rattle.lists.specs.Basics.{if◌then◌else◌, require, first}
+use Rattle.lists.specs.Basics.{when◌then◌else◌, require, first}
 use Rattle.lists.specs.Blocks.{get_or_table}
 use Rattle.lists.specs.Choice.{on_yes, on_no}
 use Rattle.lists.specs.Search.{first_cong}
@@ -55,16 +55,16 @@ module _ (w k : List ℕ) (j : ℕ) (old c : Card) where
 
   pub offer_higher : old.revision < c.revision → (out : List ℕ) → out ≡ put_book k (record { marks = marks_in k; cards = set (read_book k).cards j c })
       → given ≡ record { outcome = Answered Quiet; slice = w; cards = out }
-  unfolding renewed offer_written if◌then◌else◌
-  offer_higher l out e = ap (λ z. offer_written w k (if z then kept (set (read_book k).cards j c) else low)) (lt-ltb _ _ l) ∙ ap (λ z. record { outcome = Answered Quiet; slice = w; cards = z }) (sym e)
+  unfolding renewed offer_written when◌then◌else◌
+  offer_higher l out e = ap (λ z. offer_written w k (when z then kept (set (read_book k).cards j c) else low)) (lt-ltb _ _ l) ∙ ap (λ z. record { outcome = Answered Quiet; slice = w; cards = z }) (sym e)
     where
       low : Offered
       low = require (nat_eq old.revision c.revision) (declined 22) (require (nat_eq old.price c.price) (declined 23) (kept (read_book k).cards))
 
   module _ (l : c.revision ≤ old.revision) where
     lower : given ≡ offer_written w k (require (nat_eq old.revision c.revision) (declined 22) (require (nat_eq old.price c.price) (declined 23) (kept (read_book k).cards)))
-    unfolding renewed if◌then◌else◌
-    lower = ap (λ z. offer_written w k (if z then kept (set (read_book k).cards j c) else require (nat_eq old.revision c.revision) (declined 22) (require (nat_eq old.price c.price) (declined 23) (kept (read_book k).cards)))) (le-ltb _ _ l)
+    unfolding renewed when◌then◌else◌
+    lower = ap (λ z. offer_written w k (when z then kept (set (read_book k).cards j c) else require (nat_eq old.revision c.revision) (declined 22) (require (nat_eq old.price c.price) (declined 23) (kept (read_book k).cards)))) (le-ltb _ _ l)
 
     pub offer_22 : (old.revision ≡ c.revision → ⊥) → given ≡ unchanged w k 22
     unfolding offer_written
@@ -86,21 +86,21 @@ module _ (w k : List ℕ) (c : Card) (j : ℕ) (ej : j ≡ first (λ i. nat_eq (
   at_place = place_read k c.machine ∙ sym ej
 
   pub offer_kept : j < cards_in k → offer_written w k (offered (read_book k).cards c) ≡ offer_written w k (renewed (read_book k).cards j (get_or (read_book k).cards j no_card) c)
-  unfolding offered if◌then◌else◌
+  unfolding offered when◌then◌else◌
   offer_kept l =
       ap (offer_written w k)
-      (ap (λ z. if nat_lt z (length (read_book k).cards) then renewed (read_book k).cards z (get_or (read_book k).cards z no_card) c else new) at_place
-      ∙ ap (λ z. if z then renewed (read_book k).cards j (get_or (read_book k).cards j no_card) c else new) (lt-ltb j (length (read_book k).cards) (omega (arith, count_of_book k))))
+      (ap (λ z. when nat_lt z (length (read_book k).cards) then renewed (read_book k).cards z (get_or (read_book k).cards z no_card) c else new) at_place
+      ∙ ap (λ z. when z then renewed (read_book k).cards j (get_or (read_book k).cards j no_card) c else new) (lt-ltb j (length (read_book k).cards) (omega (arith, count_of_book k))))
     where
       new : Offered
       new = require (nat_lt (length (read_book k).cards) most_cards) (declined 24) (kept ((read_book k).cards ++ (c ∷ [])))
 
   module _ (l : cards_in k ≤ j) where
     new_one : offered (read_book k).cards c ≡ require (nat_lt (length (read_book k).cards) most_cards) (declined 24) (kept ((read_book k).cards ++ (c ∷ [])))
-    unfolding offered if◌then◌else◌
+    unfolding offered when◌then◌else◌
     new_one =
-        ap (λ z. if nat_lt z (length (read_book k).cards) then renewed (read_book k).cards z (get_or (read_book k).cards z no_card) c else require (nat_lt (length (read_book k).cards) most_cards) (declined 24) (kept ((read_book k).cards ++ (c ∷ [])))) at_place
-        ∙ ap (λ z. if z then renewed (read_book k).cards j (get_or (read_book k).cards j no_card) c else require (nat_lt (length (read_book k).cards) most_cards) (declined 24) (kept ((read_book k).cards ++ (c ∷ [])))) (le-ltb j (length (read_book k).cards) (omega (arith, count_of_book k)))
+        ap (λ z. when nat_lt z (length (read_book k).cards) then renewed (read_book k).cards z (get_or (read_book k).cards z no_card) c else require (nat_lt (length (read_book k).cards) most_cards) (declined 24) (kept ((read_book k).cards ++ (c ∷ [])))) at_place
+        ∙ ap (λ z. when z then renewed (read_book k).cards j (get_or (read_book k).cards j no_card) c else require (nat_lt (length (read_book k).cards) most_cards) (declined 24) (kept ((read_book k).cards ++ (c ∷ [])))) (le-ltb j (length (read_book k).cards) (omega (arith, count_of_book k)))
 
     pub offer_24 : most_cards ≤ cards_in k → offer_written w k (offered (read_book k).cards c) ≡ unchanged w k 24
     unfolding offer_written

@@ -1,5 +1,6 @@
 // The step with cards and a tally (document 01, 'Reading the ring', and document 02, 2026-04): a step that record or cards refuse is counted too.
 #![tactic(auto)]
+
 ghost use Rattle.std.specs.Prelude.{◌≡◌};
 ghost use Rattle.protocol.specs.Answers.{counted as counted_spec};
 ghost use Rattle.protocol.specs.Cards.{step_cards};

@@ -11,7 +11,7 @@ use Rattle.std.proofs.Common.{nat_le, nat_eq}
 use Rattle.std.proofs.Math.ListN.{get_or-eq_default}
 use Rattle.clockwise.specs.Clockwise.{dist}
 use Rattle.clockwise.specs.Laws.{dist_law}
-use Rattle.lists.specs.Basics.{if◌then◌else◌}
+use Rattle.lists.specs.Basics.{when◌then◌else◌}
 use Rattle.lists.specs.Choice.{choose, passes}
 use Rattle.lists.specs.Tests.{→eqb, and_left, and_right, and_both}
 use Rattle.protocol.specs.Record.{round}
@@ -22,7 +22,7 @@ use Rattle.cardlayout.specs.Reach.{top, gap, gap_to, least, least_says, reach, r
 
 -- 1 for yes
 abbrev pub bit : Bool → ℕ
-bit b = if b then 1 else 0
+bit b = when b then 1 else 0
 
 -- The sum of g 0, g 1, .., n of them. (Of bits: how many are yes.)
 unfoldable pub total : (ℕ → ℕ) → ℕ → ℕ
@@ -93,7 +93,7 @@ total_one f (suc n) o l t only = elim (ℕ_discrete o n) [
     off i ne = choose (λ z. z ≡ 0) (f i) 1 0 (λ k. absurd (ne k)) (λ _. refl)
 
 at_most_one : (f : ℕ → Bool) (n : ℕ) → ((i j : ℕ) → i < n → j < n → T (f i) → T (f j) → i ≡ j) → total (λ i. bit (f i)) n ≤ 1
-unfolding total if◌then◌else◌
+unfolding total when◌then◌else◌
 at_most_one f zero one = omega arith
 at_most_one f (suc n) one = go (f n) refl (at_most_one f n (λ i j a b. one i j (omega arith) (omega arith)))
   where
@@ -159,14 +159,14 @@ module _ (ids marks : List ℕ) (N : Names ids) (below : (h : ℕ) → Marked ma
       ∙ omega (arith, owned n (omega arith), owned_once n (omega arith))
 
   abbrev arc : (ℕ → ℕ) → ℕ → ℕ
-  arc far h = if nat_eq (get_or marks h 0) 1 then far h + 1 else 0
+  arc far h = when nat_eq (get_or marks h 0) 1 then far h + 1 else 0
 
   -- a member owns at most one number more than its reach
   arc_most : (h : ℕ) → total (λ v. bit (own h v)) round ≤ arc (reach ids marks) h
-  unfolding if◌then◌else◌
+  unfolding when◌then◌else◌
   arc_most h = go (nat_eq (get_or marks h 0) 1) refl
     where
-      go : (b : Bool) → nat_eq (get_or marks h 0) 1 ≡ b → total (λ v. bit (b && nat_le (dist round v (id h)) (reach ids marks h))) round ≤ (if b then reach ids marks h + 1 else 0)
+      go : (b : Bool) → nat_eq (get_or marks h 0) 1 ≡ b → total (λ v. bit (b && nat_le (dist round v (id h)) (reach ids marks h))) round ≤ (when b then reach ids marks h + 1 else 0)
       go true e = within_most (λ v. dist round v (id h)) round (λ i j a b q. back i j a b q) (reach ids marks h)
         where
           back : (i j : ℕ) → i < round → j < round → dist round i (id h) ≡ dist round j (id h) → i ≡ j

@@ -7,7 +7,7 @@ use Rattle.std.proofs.Math.Decide.{dec_le, ℕ_discrete}
 use Rattle.std.proofs.Math.Dec.{nleb→lt, eqb→eq, T_not}
 use Rattle.clockwise.specs.Clockwise.{dist}
 use Rattle.clockwise.specs.Laws.{dist_lt, dist_pos, tri}
-use Rattle.lists.specs.Basics.{if◌then◌else◌, Mem}
+use Rattle.lists.specs.Basics.{when◌then◌else◌, Mem}
 use Rattle.lists.specs.Choice.{choose}
 use Rattle.lists.specs.Tests.{→eqb}
 use Rattle.protocol.specs.Record.{round}
@@ -21,18 +21,18 @@ top = 4294967295
 
 -- How far b's numbers reach back if a comes before it: one less than the distance; all the way round where a is b.
 unfoldable pub gap : ℕ → ℕ → ℕ
-gap a b = if nat_eq a b then top else dist round a b - 1
+gap a b = when nat_eq a b then top else dist round a b - 1
 
 -- The least of top and f 0, f 1, .., n of them.
 unfoldable pub least : (ℕ → ℕ) → ℕ → ℕ
 least f zero = top
-least f (suc n) = if nat_le (least f n) (f n) then least f n else f n
+least f (suc n) = when nat_le (least f n) (f n) then least f n else f n
 
 pub least_none : (f : ℕ → ℕ) → least f 0 ≡ top
 unfolding least
 least_none f = refl
 
-pub least_more : (f : ℕ → ℕ) (i : ℕ) → least f (i + 1) ≡ (if nat_le (least f i) (f i) then least f i else f i)
+pub least_more : (f : ℕ → ℕ) (i : ℕ) → least f (i + 1) ≡ (when nat_le (least f i) (f i) then least f i else f i)
 unfolding least
 least_more f i = ap (least f) (add-one i)
 
@@ -55,7 +55,7 @@ says_least f (suc n) x l g =
 
 -- What a hub's reach is the least of: the gap to each marked hub, and top for the others.
 unfoldable pub gap_to : List ℕ → List ℕ → ℕ → ℕ → ℕ
-gap_to ids marks h m = if nat_eq (get_or marks m 0) 1 then gap (get_or ids m 0) (get_or ids h 0) else top
+gap_to ids marks h m = when nat_eq (get_or marks m 0) 1 then gap (get_or ids m 0) (get_or ids h 0) else top
 
 unfoldable pub reach : List ℕ → List ℕ → ℕ → ℕ
 reach ids marks h = least (gap_to ids marks h) (length marks)
@@ -145,7 +145,7 @@ module _ (ids marks : List ℕ) (N : Names ids) (below : (h : ℕ) → Marked ma
 
   -- h is marked: its numbers go to it, the others stay
   pub home_on : (v m : ℕ) → v < round → Marked marks m
-      → home ids (marked (set marks h 1)) v ≡ (if nat_le (dist round v (name h)) (reach ids (set marks h 1) h) then h else home ids (marked marks) v)
+      → home ids (marked (set marks h 1)) v ≡ (when nat_le (dist round v (name h)) (reach ids (set marks h 1) h) then h else home ids (marked marks) v)
   home_on v m lv k = choose (λ z. home ids (marked (set marks h 1)) v ≡ z) (nat_le (dist round v (name h)) (reach ids (set marks h 1) h)) h (home ids (marked marks) v)
       (λ t. home_is (reach_owns ids (set marks h 1) N below_on h v lv (set_on marks h lm) (leb→le _ _ t)))
       (λ t. let o = owner_of ids marks N below m v k in stays o.0 o.1 (nleb→lt _ _ t))
@@ -173,7 +173,7 @@ module _ (ids marks : List ℕ) (N : Names ids) (below : (h : ℕ) → Marked ma
   -- the mark of h is taken away: its numbers go to whoever owns its own number then, the others stay
   pub home_off : (v m : ℕ) → v < round → Marked marks h → Marked (set marks h 0) m
       → home ids (marked (set marks h 0)) v
-      ≡ (if nat_le (dist round v (name h)) (reach ids marks h) then home ids (marked (set marks h 0)) (name h) else home ids (marked marks) v)
+      ≡ (when nat_le (dist round v (name h)) (reach ids marks h) then home ids (marked (set marks h 0)) (name h) else home ids (marked marks) v)
   home_off v m lv kh k = choose (λ z. home ids (marked (set marks h 0)) v ≡ z) (nat_le (dist round v (name h)) (reach ids marks h)) (home ids (marked (set marks h 0)) (name h)) (home ids (marked marks) v)
       (λ t. let o = owner_of ids (set marks h 0) N below_off m (name h) k in goes o.0 o.1 (reach_owns ids marks N below h v lv kh (leb→le _ _ t)))
       (λ t. let o = owner_of ids marks N below h v kh in stays o.0 o.1 (nleb→lt _ _ t))

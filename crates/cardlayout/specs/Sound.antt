@@ -1,5 +1,5 @@
 -- What 'well formed' says of a card slice, in both directions. Assumes nothing.
-use Rattle.std.specs.Prelude.{◌≡◌, List, ◌++◌, map, ℕ, zero, suc, ◌+◌, ◌≤◌, ◌<◌, T, nat_lt, nat_eq, length, replicate}
+use Rattle.std.specs.Prelude.{◌≡◌, List, ◌++◌, map, ℕ, zero, suc, ◌≤◌, ◌<◌, T, nat_lt, nat_eq, length, replicate}
 use Rattle.std.proofs.Common.{inl, inr}
 use Rattle.lists.specs.Basics.{Mem}
 use Rattle.lists.specs.Tests.{Says, says_and, says_as, says_le, says_lt, says_eq, says_every, Distinct, says_distinct}

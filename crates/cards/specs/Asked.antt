@@ -10,7 +10,7 @@ use Rattle.protocol.specs.Record.{record_size, count, read, words}
 use Rattle.protocol.specs.WellFormed.{identifiers}
 use Rattle.protocol.specs.Step.{Result, refused, step}
 use Rattle.protocol.specs.Step.{accepted as went}
-use Rattle.protocol.specs.Calls.{long, written, turned_down, step_call}
+use Rattle.protocol.specs.Calls.{written, turned_down, step_call}
 use Rattle.protocol.specs.Cards.{CardsCalled, after_call}
 use Rattle.layout.specs.Words.{count_of_read}
 use Rattle.layout.specs.Form.{Valid, valid_form}

@@ -3,7 +3,7 @@ use Rattle.std.specs.Prelude.{◌≡◌, Bool, ◌&&◌, ℕ, ◌<◌, ◌≤◌
 use Rattle.std.proofs.Common.{sym, subst, arith, eqb→eq, ltb→lt}
 use Rattle.std.proofs.Common.{nat_lt, nat_eq}
 use Rattle.std.proofs.Math.Dec.{T}
-use Rattle.lists.specs.Basics.{if◌then◌else◌}
+use Rattle.lists.specs.Basics.{when◌then◌else◌}
 use Rattle.lists.specs.Choice.{choose, tested}
 use Rattle.lists.specs.Members.{mem_at}
 use Rattle.protocol.specs.declared.Row.{Row}
@@ -50,7 +50,7 @@ module _ (n : ℕ) where
   Mild (Reply v a) = Bound n a
   Mild (Send v u a) = Bound n a
 
-  if_else : (b : Bool) (x : Decision) → Mild x → Mild (if b then x else Refuse 10)
+  if_else : (b : Bool) (x : Decision) → Mild x → Mild (when b then x else Refuse 10)
   if_else b x f = choose Mild b x (Refuse 10) (λ _. f) (λ _. tt)
 
   module _ (h : Row) (asked : ℕ) (m : Message) (M : MessageForm n asked m) where
@@ -79,7 +79,7 @@ module _ (n : ℕ) where
         (by 9 _ _ (λ _. if_else _ _ tt) (by 10 _ _ (λ _. if_else _ _ tt) (by 11 _ _ (λ _. if_else _ _ M.from)
         (by 12 _ _ (λ _. if_else _ _ tt) (by 13 _ _ (λ _. if_else _ _ tt) (by 14 _ _ (λ _. if_else _ _ tt) tt)))))))))))))
       where
-        by : (k : ℕ) (x y : Decision) → (m.kind ≡ k → Mild x) → Mild y → Mild (if nat_eq m.kind k then x else y)
+        by : (k : ℕ) (x y : Decision) → (m.kind ≡ k → Mild x) → Mild y → Mild (when nat_eq m.kind k then x else y)
         by k x y f g = choose Mild (nat_eq m.kind k) x y (λ t. f (eqb→eq m.kind k t)) (λ _. g)
 
 -- a step's result

@@ -7,7 +7,7 @@ use Rattle.std.proofs.Common.{nat_le}
 use lib.ListN.{length, get_or, set, take, drop, length-append, length-map}
 use lib.Seq.{length-take-le, set_at, drop-cons, take-suc, append_snoc, take-length, drop-length, set-get_or}
 use Rattle.clockwise.specs.Clockwise.{dist}
-use Rattle.lists.specs.Basics.{if◌then◌else◌, Mem}
+use Rattle.lists.specs.Basics.{when◌then◌else◌, Mem}
 use Rattle.protocol.specs.declared.Card.{Card}
 use Rattle.protocol.specs.Record.{round}
 use Rattle.protocol.specs.Cards.{card_start, Book, book_words, card_from, marked, home, rehoused, moved, no_card}
@@ -19,7 +19,7 @@ use Rattle.cardlayout.specs.Sound.{BookForm}
 
 -- a card within reach of an identifier gets the hub
 unfoldable pub handed : ℕ → ℕ → ℕ → Card → Card
-handed id far hub c = with_hub c (if nat_le (dist round c.machine id) far then hub else c.hub)
+handed id far hub c = with_hub c (when nat_le (dist round c.machine id) far then hub else c.hub)
 
 -- the first j cards handed over
 abbrev pub handed_book : ℕ → ℕ → ℕ → Book → ℕ → Book
@@ -57,7 +57,7 @@ module _ (id far hub : ℕ) (b : Book) (t : List ℕ) (f : Fits b) (j : ℕ) (h 
       card_read so t handed_fits j no_card (omega (arith, mapped_size (handed id far hub) b.cards j no_card h))
       ∙ mapped_at (handed id far hub) b.cards j no_card h
 
-  pub handed_more : (x : ℕ) → x ≡ (if nat_le (dist round (get_or b.cards j no_card).machine id) far then hub else (get_or b.cards j no_card).hub)
+  pub handed_more : (x : ℕ) → x ≡ (when nat_le (dist round (get_or b.cards j no_card).machine id) far then hub else (get_or b.cards j no_card).hub)
       → set (book_words (handed_book id far hub b j) ++ t) (card_start j + 3) x ≡ book_words (handed_book id far hub b (j + 1)) ++ t
   unfolding handed
   handed_more x e =
@@ -96,14 +96,14 @@ module _ (ids : List ℕ) (b : Book) (N : Names ids) (F : BookForm ids b) (small
   pub entered_cards : map (handed (get_or ids h 0) (reach ids (set b.marks h 1) h) h) b.cards ≡ map (rehoused ids (marked (set b.marks h 1))) b.cards
   unfolding handed rehoused
   entered_cards = map_same _ _ b.cards (λ c i. ap (with_hub c)
-      (ap (λ z. if nat_le (dist round c.machine name) (reach ids (set b.marks h 1) h) then h else z) (F.homes c i)
+      (ap (λ z. when nat_le (dist round c.machine name) (reach ids (set b.marks h 1) h) then h else z) (F.homes c i)
       ∙ sym (home_on ids b.marks N below h lh lm c.machine F.marks.some.0 (small c i) F.marks.some.1)))
 
   pub left_cards : Marked b.marks h → (m : ℕ) → Marked (set b.marks h 0) m
       → map (handed (get_or ids h 0) (reach ids b.marks h) (home ids (marked (set b.marks h 0)) (get_or ids h 0))) b.cards ≡ map (rehoused ids (marked (set b.marks h 0))) b.cards
   unfolding handed rehoused
   left_cards kh m k = map_same _ _ b.cards (λ c i. ap (with_hub c)
-      (ap (λ z. if nat_le (dist round c.machine name) (reach ids b.marks h) then home ids (marked (set b.marks h 0)) name else z) (F.homes c i)
+      (ap (λ z. when nat_le (dist round c.machine name) (reach ids b.marks h) then home ids (marked (set b.marks h 0)) name else z) (F.homes c i)
       ∙ sym (home_off ids b.marks N below h lh lm c.machine m (small c i) kh k)))
 
 -- A hub that is no member strikes nobody off: the cards stay.

@@ -1,5 +1,6 @@
 // Clockwise arithmetic on the ring of 32-bit numbers (document 01, 'Clockwise arithmetic').
 #![tactic(auto)]
+
 ghost use Rattle.std.specs.Prelude.{◌≡◌, ◌^◌};
 ghost use Rattle.clockwise.specs.Clockwise.{dist, in_range};
 

@@ -6,7 +6,7 @@ use Rattle.std.proofs.Math.ListN.{length, length-take}
 use Rattle.std.proofs.Math.Seq.{take_all, take-suc-set, drop-cons, drop-length}
 use Rattle.std.proofs.lemmas.List.{take-append-le}
 use borrow.Author.Tests.{eq-eqb, ne_eqb}
-use Rattle.lists.specs.Basics.{if◌then◌else◌}
+use Rattle.lists.specs.Basics.{when◌then◌else◌}
 use Rattle.console.specs.Lines.{kept, gathered}
 
 module _ (l : List ℕ) (h b : ℕ) where
@@ -33,10 +33,10 @@ module _ (n : ℕ) (part input : List ℕ) (i : ℕ) where
 
   module _ (h : i < length input) where
     pub gathered_ends : get_or input i 0 ≡ 10 → gathered n part (drop i input) ≡ record { part = part; ended = true; left = drop (i + 1) input }
-    unfolding gathered if◌then◌else◌
+    unfolding gathered when◌then◌else◌
     gathered_ends e = rw (add-one, drop-cons input i 0 h, eq-eqb _ _ e)
 
     pub gathered_more : (get_or input i 0 ≡ 10 → ⊥) → (held : List ℕ) (m : ℕ) → held ≡ kept m part (get_or input i 0) → m ≡ n
         → gathered n part (drop i input) ≡ gathered n held (drop (i + 1) input)
-    unfolding gathered if◌then◌else◌
+    unfolding gathered when◌then◌else◌
     gathered_more e held m k f = rw (add-one, drop-cons input i 0 h, ne_eqb _ _ e, k, f)

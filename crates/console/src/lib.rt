@@ -1,6 +1,7 @@
 // Standard input and output for a program that answers lines: lines out of the bytes that arrive, answers to standard output, and a word on
 // standard error about whatever fails.
 #![tactic(auto)]
+
 mod arriving;
 mod gathering;
 mod leaving;

@@ -3,7 +3,7 @@
 use Rattle.std.specs.Prelude.{◌≡◌, refl, List, ℕ, ◌≤◌, T, nat_lt, length}
 use Rattle.std.proofs.Common.{ap, le→leb}
 use native.Mathlib.Omega.{arith}
-use Rattle.lists.specs.Basics.{if◌then◌else◌, All, every, first, distinct}
+use Rattle.lists.specs.Basics.{when◌then◌else◌, All, every, first, distinct}
 use Rattle.lists.specs.Choice.{granted}
 use Rattle.protocol.specs.declared.Answer.TheVariants.{Quiet}
 use Rattle.protocol.specs.declared.Outcome.TheVariants.{Answered}
@@ -40,7 +40,7 @@ module _ (slice book : List ℕ) (l : record_size ≤ length slice) (m : book_si
   })
 
   pub two_hubs_with_cards_none_named : Going (fresh_cards slice book two) slice 1 calls
-  unfolding smallest first every if◌then◌else◌
+  unfolding smallest first every when◌then◌else◌
   two_hubs_with_cards_none_named = two_hubs_with_cards 1 tt
 
 pub two_hubs_with_a_route : (slice book out : List ℕ) → record_size ≤ length slice → book_size ≤ length book → Going (fresh_cards slice book two) slice 1 (on_tour out)

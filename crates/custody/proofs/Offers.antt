@@ -6,7 +6,7 @@ use Rattle.std.proofs.Common.{nat_lt}
 use Rattle.std.proofs.Math.Dec.{ltb→lt, nltb→le}
 use Rattle.std.proofs.Math.Seq.{map-set_same}
 use borrow.Author.Tests.{eqb-false, eqb-true}
-use Rattle.lists.specs.Basics.{if◌then◌else◌, require, Mem, first}
+use Rattle.lists.specs.Basics.{when◌then◌else◌, require, Mem, first}
 use Rattle.lists.specs.Choice.{choose, passes, tested}
 use Rattle.lists.specs.Members.{mem_map, mem_set, mem_split, place}
 use Rattle.lists.specs.Search.{Located, Missed, search_ends}
@@ -107,7 +107,7 @@ module _ (cards : List Card) (c : Card) (some : length cards ≤ most_cards) whe
   offer_fair = go (search_ends alike (length cards))
     where
       go : Located alike (length cards) ⊎ Missed alike (length cards)
-          → Fair cards c (if nat_lt at (length cards) then renewed cards at (get_or cards at no_card) c
+          → Fair cards c (when nat_lt at (length cards) then renewed cards at (get_or cards at no_card) c
           else require (nat_lt (length cards) most_cards) (declined CARDS_FULL) (kept (cards ++ (c ∷ []))))
       go (inl f) =
           choose (Fair cards c) (nat_lt at (length cards)) _ _

@@ -7,7 +7,7 @@ use Prim.Native.Nat.{ℕ, ◌+◌, ◌<◌}
 use Rattle.std.proofs.Math.Dec.{T}
 use Rattle.std.proofs.Math.ListN.{drop, get_or-map}
 use Rattle.std.proofs.lemmas.List.{length-map, length-replicate, get_or-replicate}
-use Rattle.lists.specs.Basics.{if◌then◌else◌, require, Mem, All}
+use Rattle.lists.specs.Basics.{when◌then◌else◌, require, Mem, All}
 use Rattle.lists.specs.Choice.{granted, tested}
 use Rattle.lists.specs.Members.{mem_at, by_row, all_append}
 use Rattle.lists.specs.Tests.{Distinct}
@@ -375,7 +375,7 @@ record Made (slice book ids : List ℕ) (founder : ℕ) : Type 0 where
   is_cards : (fresh_by_cards slice book ids founder).cards ≡ book_words (new_book founder) ++ drop book_size book
 
 cards_made : (slice book ids : List ℕ) (founder : ℕ) → (fresh_by_cards slice book ids founder).outcome ≡ Answered Quiet → Made slice book ids founder
-unfolding fresh_by_cards both_long require if◌then◌else◌ with_new_book put_book
+unfolding fresh_by_cards both_long require when◌then◌else◌ with_new_book put_book
 cards_made slice book ids founder e =
     let r = go (long slice) (nat_le book_size (length book)) (fresh_by_call slice ids founder).slice (fresh_by_call slice ids founder).outcome e in
     record { founded = r.0; is_record = r.1; is_cards = r.2 }

@@ -3,7 +3,7 @@
 -- lists of the three calls.
 -- (From `lists`: Mem, being an element; All, of each element.)
 use Rattle.std.specs.Prelude.{◌≡◌, List, [], ◌∷◌, ◌++◌, map, ℕ, ◌+◌, ◌<◌, nat_eq, get_or}
-use Rattle.lists.specs.Basics.{if◌then◌else◌, Mem, All}
+use Rattle.lists.specs.Basics.{when◌then◌else◌, Mem, All}
 use Rattle.protocol.specs.declared.Card.{Card}
 use Rattle.protocol.specs.declared.Message.{Message}
 use Rattle.protocol.specs.declared.Answer.TheVariants.{Quiet}
@@ -108,7 +108,7 @@ ledger founder events = members_after (founding_members founder) (step_events ev
 -- A plain list of prices, without hubs: an offer takes the place of its machine's, or goes last.
 unfoldable pub put : List Offer → Offer → List Offer
 put [] o = o ∷ []
-put (x ∷ prices) o = if nat_eq x.machine o.machine then o ∷ prices else x ∷ put prices o
+put (x ∷ prices) o = when nat_eq x.machine o.machine then o ∷ prices else x ∷ put prices o
 
 -- It is fed by the accepted offers alone.
 abbrev pub prices_then : List Offer → CardCall → Outcome → List Offer

@@ -1,7 +1,7 @@
 -- A case of the theorem: what is claimed of a ring of the identifiers 200 and 100 with its cards, and a list with a route. (That the premises can be
 -- met there is proofs/Instance.antt.) Assumes nothing.
 use Rattle.std.specs.Prelude.{◌≡◌, refl, List, [], ◌∷◌, ℕ, replicate}
-use Rattle.lists.specs.Basics.{if◌then◌else◌, require}
+use Rattle.lists.specs.Basics.{when◌then◌else◌, require}
 use Rattle.protocol.specs.Calls.{fresh_by_call}
 use Rattle.protocol.specs.Cards.{CardsCalled}
 use Rattle.protocol.specs.Batch.{fitting}
@@ -27,9 +27,9 @@ on_tour out =
 
 -- The steps that are claimed of it: with three places of six words the asks, one by one; with a word less none of them.
 pub three_asks : steps (on_tour (replicate 18 0)) ≡ joining ∷ ask 1 150 ∷ ask 1 250 ∷ ask 1 150 ∷ []
-unfolding steps fitting require if◌then◌else◌
+unfolding steps fitting require when◌then◌else◌
 three_asks = refl
 
 pub no_asks : steps (on_tour (replicate 17 0)) ≡ joining ∷ []
-unfolding steps fitting require if◌then◌else◌
+unfolding steps fitting require when◌then◌else◌
 no_asks = refl

@@ -5,7 +5,7 @@ use Rattle.std.proofs.Math.Path.{ap}
 use Rattle.std.proofs.Common.{◌∙◌, arith, ltb→lt, get_or-set_same}
 use Rattle.std.proofs.Common.{nat_lt, nat_eq}
 use Rattle.std.proofs.Math.Dec.{eqb→eq}
-use Rattle.lists.specs.Basics.{if◌then◌else◌}
+use Rattle.lists.specs.Basics.{when◌then◌else◌}
 use Rattle.lists.specs.Choice.{choose, tested}
 use Rattle.lists.specs.Tests.{and_left, and_right}
 use Rattle.protocol.specs.declared.Row.{Row}
@@ -46,7 +46,7 @@ Mild (Refuse k) = Unit {0}
 Mild (Reply v a) = Strikes a → v.state ≡ INSIDE
 Mild (Send v n a) = Strikes a → v.state ≡ INSIDE
 
-if_else : (b : Bool) (x : Decision) → (T b → Mild x) → Mild (if b then x else Refuse NOT_EXPECTED)
+if_else : (b : Bool) (x : Decision) → (T b → Mild x) → Mild (when b then x else Refuse NOT_EXPECTED)
 if_else b x f = choose Mild b x (Refuse NOT_EXPECTED) f (λ _. tt)
 
 module _ (h : Row) (m : Message) where
@@ -76,7 +76,7 @@ module _ (h : Row) (m : Message) where
       (by 9 _ _ (if_else _ _ (λ _ s. absurd s)) (by 10 _ _ (if_else _ _ (λ _ s. absurd s)) (by 11 _ _ leave_point_lem
       (by 12 _ _ (if_else _ _ (λ _ s. absurd s)) (by 13 _ _ (if_else _ _ (λ _ s. absurd s)) (by 14 _ _ (if_else _ _ (λ _ s. absurd s)) tt)))))))))))))
     where
-      by : (k : ℕ) (x y : Decision) → Mild x → Mild y → Mild (if nat_eq m.kind k then x else y)
+      by : (k : ℕ) (x y : Decision) → Mild x → Mild y → Mild (when nat_eq m.kind k then x else y)
       by k x y f g = choose Mild (nat_eq m.kind k) x y (λ _. f) (λ _. g)
 
 -- a step's result: where it strikes off, some hub is inside

@@ -3,7 +3,7 @@
 -- founded it, and nothing has happened unless a case says so. Assumes nothing.
 use Rattle.std.specs.Prelude.{◌≡◌, refl, List, [], ◌∷◌, ◌++◌, ℕ, nat_le, length, replicate}
 use Rattle.std.proofs.Common.{sym, ap, subst, inl, arith}
-use Rattle.lists.specs.Basics.{if◌then◌else◌, require, table, Mem}
+use Rattle.lists.specs.Basics.{when◌then◌else◌, require, table, Mem}
 use Rattle.lists.specs.Choice.{on_no, tested}
 use Rattle.protocol.specs.declared.Message.{Message}
 use Rattle.protocol.specs.declared.Answer.TheVariants.{Quiet}
@@ -34,11 +34,11 @@ founded k = CardClaims two 0 [] [] [] [] k
 
 -- (a) Hub 1 is marked, and has not entered; or nobody is.
 pub stranger_marked : founded (slice 0 1 1 []) → ⊥
-unfolding mark members_after step_events if◌then◌else◌
+unfolding mark members_after step_events when◌then◌else◌
 stranger_marked c = let e = c.members 1 (omega arith) in omega (arith, e)
 
 pub founder_not_marked : founded (slice 0 0 0 []) → ⊥
-unfolding mark members_after step_events if◌then◌else◌
+unfolding mark members_after step_events when◌then◌else◌
 founder_not_marked c = let e = c.members 0 (omega arith) in omega (arith, e)
 
 -- (b) Of two cards the second is with hub 1, which has not entered.
@@ -77,7 +77,7 @@ code : CardsCalled → ℕ
 code z = refusal z.outcome
 
 pub slices_too_short : founded [] → ⊥
-unfolding code on_both both_long long refusal require if◌then◌else◌
+unfolding code on_both both_long long refusal require when◌then◌else◌
 slices_too_short c = let e = ap code (c.ready (unchanged [] [] 0)) in omega (arith, e)
 
 -- (e) A step that is refused by 2 with cards, and by 1 without them (the record is empty).
@@ -89,7 +89,7 @@ number [] = 0
 number (e ∷ events) = refusal e.outcome
 
 pub refused_by_the_cards : CardClaims two 0 [] (leaving ∷ []) (record { call = step leaving; outcome = Refused NOT_WELL_FORMED } ∷ []) [] [] → ⊥
-unfolding step_events history number refusal step_call on_record long require if◌then◌else◌
+unfolding step_events history number refusal step_call on_record long require when◌then◌else◌
 refused_by_the_cards c = let e = ap number c.outcomes in omega (arith, e)
 
 -- A route whose question was refused by 2, where asking is refused by 1; one whose question is missing; and one with too few places for its number,
@@ -107,15 +107,15 @@ abbrev asked : ℕ → List CardEvent
 asked k = record { call = step (ask 0 7); outcome = Refused k } ∷ []
 
 pub route_differs_from_asking : routed one_place (asked NOT_WELL_FORMED) → ⊥
-unfolding steps fitting step_events history number refusal step_call on_record long require if◌then◌else◌
+unfolding steps fitting step_events history number refusal step_call on_record long require when◌then◌else◌
 route_differs_from_asking c = let e = ap number c.outcomes in omega (arith, e)
 
 pub question_not_asked : routed one_place [] → ⊥
-unfolding steps fitting step_events history require if◌then◌else◌
+unfolding steps fitting step_events history require when◌then◌else◌
 question_not_asked c = let e = ap length c.outcomes in omega (arith, e)
 
 pub asked_without_a_place : routed no_place (asked RECORD_SHORT) → ⊥
-unfolding steps fitting step_events history require if◌then◌else◌
+unfolding steps fitting step_events history require when◌then◌else◌
 asked_without_a_place c = let e = ap length c.outcomes in omega (arith, e)
 
 -- A record that is not the one without cards.

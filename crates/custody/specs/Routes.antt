@@ -4,7 +4,7 @@ use Rattle.std.proofs.Math.Path.{refl, ap}
 use Rattle.std.proofs.Common.{◌∙◌}
 use Rattle.std.proofs.Math.Bool.{true, false}
 use mathlib.Core.List.{List, [], ◌∷◌, ◌++◌, map}
-use Rattle.lists.specs.Basics.{if◌then◌else◌, require, All}
+use Rattle.lists.specs.Basics.{when◌then◌else◌, require, All}
 use Rattle.lists.specs.Choice.{tested, granted}
 use Rattle.protocol.specs.declared.Outcome.{Outcome}
 use Rattle.protocol.specs.WellFormed.{well_formed}
@@ -36,7 +36,7 @@ module _ (w : List ℕ) (r : Route) (long_enough : T (long w)) (well_formed_lem 
   -- by the two tests, which both sides make
   history_by : (a b : Bool) → step_events (questions r.hub r.numbers (require a [] (require b [] (ask_each w r.hub r.numbers).outcomes)))
       ≡ history present w (require a [] (require b [] (map (ask r.hub) r.numbers)))
-  unfolding require if◌then◌else◌ step_events history
+  unfolding require when◌then◌else◌ step_events history
   history_by true true = asked_history w r.hub r.numbers
   history_by true false = ap step_events (none_asked r.hub r.numbers)
   history_by false b = ap step_events (none_asked r.hub r.numbers)
@@ -44,7 +44,7 @@ module _ (w : List ℕ) (r : Route) (long_enough : T (long w)) (well_formed_lem 
   record_by : (a b : Bool) (long short : BatchCalled) → long.slice ≡ w → short.slice ≡ w
       → (require a long (require b short (batch_written r.numbers r.out (ask_each w r.hub r.numbers)))).slice
       ≡ record_after present w (require a [] (require b [] (map (ask r.hub) r.numbers)))
-  unfolding require if◌then◌else◌ record_after batch_written
+  unfolding require when◌then◌else◌ record_after batch_written
   record_by true true long short el es = asked_record w r.hub r.numbers
   record_by true false long short el es = es
   record_by false b long short el es = el

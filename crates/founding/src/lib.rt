@@ -1,5 +1,6 @@
 // The fresh calls: a ring is founded in a lent slice of words, from a list of identifiers.
 #![tactic(auto)]
+
 mod founder;
 mod writing;
 

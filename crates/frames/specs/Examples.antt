@@ -1,7 +1,7 @@
 -- The readings of the frame's edge cases, and how a refusal prints, computed. (Document 01's eight lines are a probe: atomicity/specs/Probes.antt.)
 -- Assumes nothing.
 use Rattle.std.specs.Prelude.{◌≡◌, refl, List, [], ◌∷◌, ◌++◌, ℕ, replicate}
-use Rattle.lists.specs.Basics.{if◌then◌else◌, require, every}
+use Rattle.lists.specs.Basics.{when◌then◌else◌, require, every}
 use Rattle.protocol.specs.declared.Outcome.TheVariants.{Refused}
 use Rattle.protocol.specs.declared.Frame.TheVariants.{Founding, Command, Unreadable}
 use Rattle.protocol.specs.Names.{IDENTIFIER_COUNT, UNREADABLE}
@@ -18,12 +18,12 @@ pub edges :
     × (frame (ask_frame ++ (13 ∷ [])) ≡ Unreadable)
     × (frame (102 ∷ 48 ∷ []) ≡ Unreadable)
     × (frame (70 ∷ 48 ∷ []) ≡ Founding 0)
-unfolding ask_frame is_digit digit_value read2 read4 read8 founding command frame if◌then◌else◌ require every
+unfolding ask_frame is_digit digit_value read2 read4 read8 founding command frame when◌then◌else◌ require every
 edges = (refl, refl, refl, refl, refl)
 
 -- EE0D and EEFF
 pub refusals :
     (outcome_text (Refused IDENTIFIER_COUNT) ≡ 69 ∷ 69 ∷ 48 ∷ 68 ∷ [])
     × (refusal_text UNREADABLE ≡ 69 ∷ 69 ∷ 70 ∷ 70 ∷ [])
-unfolding digit_of print2 refusal_text outcome_text if◌then◌else◌
+unfolding digit_of print2 refusal_text outcome_text when◌then◌else◌
 refusals = (refl, refl)

@@ -3,7 +3,7 @@ use Rattle.std.specs.Prelude.{◌≡◌, refl, Bool, true, false, List, ℕ, ◌
 use Rattle.std.proofs.Math.Path.{ap}
 use Rattle.std.proofs.Common.{sym, ◌∙◌, arith, take_all, length-take-le, leb-true, leb-false}
 use Rattle.std.proofs.lemmas.Bool.{lt-leb}
-use Rattle.lists.specs.Basics.{require, if◌then◌else◌}
+use Rattle.lists.specs.Basics.{require, when◌then◌else◌}
 use Rattle.protocol.specs.declared.Frame.{Frame}
 use Rattle.protocol.specs.declared.Frame.TheVariants.{Founding, Command, Unreadable}
 use Rattle.protocol.specs.declared.Line.{Line}
@@ -39,7 +39,7 @@ module _ (w l : List ℕ) (f : Frame) (e : f ≡ frame l) where
 
 -- A line that exceeds 514 digits does not read.
 too_long : (l : List ℕ) → 514 < length l → frame l ≡ Unreadable
-unfolding frame require if◌then◌else◌
+unfolding frame require when◌then◌else◌
 too_long l h = rw (lt-leb _ _ h)
 
 -- So what follows the first 515 bytes of a line may be dropped.

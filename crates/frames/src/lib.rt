@@ -1,5 +1,6 @@
 // One line of `ringrun`: the frame that it is, the call that the frame makes on the record, and the line that is printed for it.
 #![tactic(auto)]
+
 mod calls;
 mod digits;
 mod printing;

@@ -1,5 +1,6 @@
 // A match over the kinds 1 to 14 picks the handler. (No other kind is well formed.)
 #![tactic(auto)]
+
 ghost use Rattle.std.specs.Prelude.{◌≡◌};
 ghost use Rattle.protocol.specs.Kinds.{handle as handle_spec};
 

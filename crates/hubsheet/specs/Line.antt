@@ -5,7 +5,7 @@ use Rattle.std.proofs.Common.{◌∙◌, append_assoc, append-nil, add-one, arit
 use Rattle.std.proofs.lemmas.Bool.{lt-leb}
 use Rattle.std.proofs.lemmas.List.Edits.{sets, sets-eq}
 use Rattle.std.proofs.Math.Seq.{take-length}
-use Rattle.lists.specs.Basics.{if◌then◌else◌, require, every}
+use Rattle.lists.specs.Basics.{when◌then◌else◌, require, every}
 use Rattle.lists.specs.Choice.{on_yes, on_no}
 use Rattle.lists.specs.Splice.{splice}
 use Rattle.protocol.specs.Frames.{print2, print4, print8, refusal_text}
@@ -98,7 +98,7 @@ rows_line fits rows ids = require fits (refusal_line IDENTIFIER_TOO_LARGE) (requ
 
 rows_line_lem : (n l ids : List ℕ) (rows : ℕ) (fits : Bool) → fits ≡ every is_word l → rows ≡ min (length l) 65 → length ids ≡ 64 → take (min (length l) 64) ids ≡ take 64 (words l)
     → rows_line fits rows ids ≡ hub_line (lists n l)
-unfolding rows_line hub_line require if◌then◌else◌
+unfolding rows_line hub_line require when◌then◌else◌
 rows_line_lem n l ids rows fits f r k e = rw f (go (every is_word l) refl)
   where
     few : every is_word l ≡ true → (b : Bool) → nat_le (length l) 64 ≡ b → require (nat_le rows 64) (refusal_line ROOM_SHORT) (founding_line (take rows ids)) ≡ require (nat_le (length l) 64) (refusal_line ROOM_SHORT) (founding_line l)

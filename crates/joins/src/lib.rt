@@ -1,5 +1,6 @@
 // Kinds 2 to 7: how a node enters the ring. 'Receiver, and hub a for JOIN, as required? 10.'
 #![tactic(auto)]
+
 ghost use Rattle.std.specs.Prelude.{◌≡◌};
 ghost use Rattle.protocol.specs.Kinds.{join_retried, join_routed, join as join_spec, join_retry, join_point, new_succ, new_succ_ack, join_done};
 

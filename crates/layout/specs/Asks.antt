@@ -3,7 +3,7 @@
 use Rattle.std.specs.Prelude.{◌≡◌, refl, ◌⊎◌, Bool, List, [], ◌∷◌, ◌++◌, ℕ, ◌+◌, ◌≤◌, ◌<◌, T, nat_le, length, drop}
 use Rattle.std.proofs.Common.{sym, ◌∙◌, subst, inl, inr, arith, leb→le, length-append, length-drop}
 use Rattle.std.proofs.Math.Dec.{ltb→lt}
-use Rattle.lists.specs.Basics.{if◌then◌else◌, require, Mem}
+use Rattle.lists.specs.Basics.{when◌then◌else◌, require, Mem}
 use Rattle.lists.specs.Choice.{choose, tested}
 use Rattle.lists.specs.Members.{mem_split}
 use Rattle.lists.specs.Tests.{and_left, and_right, T_true}
@@ -128,7 +128,7 @@ pub record Again (w z : List ℕ) : Type 0 where
   pub length : length z ≡ length w
 
 pub ask_again : (w : List ℕ) → Valid w → (hub v : ℕ) → Again w (step_call w 0 hub v).slice
-unfolding step_call written step.step if◌then◌else◌
+unfolding step_call written step.step when◌then◌else◌
 ask_again w ok hub v =
     subst (λ (c : Called). Again w c.slice) (sym (record_rest w (turned_down w) _ ok.long ok.formed))
     (go (step.ask (read w) hub v) (ask_form (read w) (valid_form w ok) hub v))
@@ -146,7 +146,7 @@ ask_again w ok hub v =
 -- What holds of a question's outcome, whatever the record is: it is refused by a number above 0, or found at its hub, or quiet.
 pub ask_cases : (P : Outcome → Type 0) (w : List ℕ) (hub v : ℕ) → ((k : ℕ) → 0 < k → P (Refused k)) → ((ticket : ℕ) → P (Answered (Found hub v ticket 0))) → P (Answered Quiet)
     → P (step_call w 0 hub v).outcome
-unfolding step_call on_record written step.step step.ask asking if◌then◌else◌
+unfolding step_call on_record written step.step step.ask asking when◌then◌else◌
 ask_cases P w hub v refuses found quiet =
     tested CalledP _ _ _ (refuses RECORD_SHORT (omega arith)) (λ _. tested CalledP _ _ _ (refuses NOT_WELL_FORMED (omega arith))
     (λ _. tested ResultP _ _ _ (refuses NO_HUB (omega arith)) (λ _. tested ResultP _ _ _ (refuses NOT_IN_RING (omega arith)) (λ _. tested ResultP _ _ _ (refuses TICKETS_USED_UP (omega arith))

@@ -5,7 +5,7 @@ use Rattle.std.proofs.Common.{nat_le}
 use Rattle.std.proofs.Math.Dec.{T, leb→le, ltb→lt}
 use Rattle.std.proofs.Math.ListN.{length}
 use Rattle.std.proofs.lemmas.Bool.{lt-leb}
-use Rattle.lists.specs.Basics.{if◌then◌else◌, require, distinct}
+use Rattle.lists.specs.Basics.{when◌then◌else◌, require, distinct}
 use Rattle.lists.specs.Choice.{on_yes, on_no, choose, tested}
 use Rattle.lists.specs.Tests.{T_true, and_left, and_right, and_both}
 use Rattle.protocol.specs.declared.Answer.TheVariants.{Quiet}
@@ -83,7 +83,7 @@ module _ (w ids : List ℕ) (founder : ℕ) where
 -- What holds of two things that one route's questions decide: it holds where a question was answered no, and where there is a place for each number.
 pub batch_both : {A B : Type 0} (P : A → B → Type 0) (w numbers out : List ℕ) (no-a : ℕ → A) (no-b : ℕ → B) (a : A) (b : B)
     → ((k : ℕ) → P (no-a k) (no-b k)) → (length numbers ≤ length out / place_size → P a b) → P (on_batch w numbers out no-a a) (on_batch w numbers out no-b b)
-unfolding on_batch on_record fitting require if◌then◌else◌
+unfolding on_batch on_record fitting require when◌then◌else◌
 batch_both {A} {B} P w numbers out no-a no-b a b refuses asks =
     go (long w) (well_formed w) (nat_le (length numbers) most_questions) (nat_le (length numbers) (length out / place_size)) (λ t. asks (leb→le _ _ t))
   where

@@ -1,5 +1,6 @@
 // Kinds 8 to 14: how a node leaves the ring. 'Receiver .. as required? 10.'
 #![tactic(auto)]
+
 ghost use Rattle.std.specs.Prelude.{◌≡◌};
 ghost use Rattle.protocol.specs.Kinds.{leave_req, leave_retry, leave_grant, leave_point, update_succ, stop_forward, leave_done};
 

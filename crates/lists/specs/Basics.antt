@@ -4,14 +4,14 @@ use Rattle.std.specs.Prelude.{◌≡◌, ◌⊎◌, Bool, true, false, not, ◌&
 use Rattle.std.proofs.Math.Decide.{ℕ_discrete}
 
 -- Choice by a test. (Like the next ones it stays shut, so that a proof about it finds its parts.)
-infixr 5 if◌then◌else◌
-unfoldable pub if◌then◌else◌ : {A : Type 0} → Bool → A → A → A
-if true then x else y = x
-if false then x else y = y
+infixr 5 when◌then◌else◌
+unfoldable pub when◌then◌else◌ : {A : Type 0} → Bool → A → A → A
+when true then x else y = x
+when false then x else y = y
 
 -- A question: where the answer is no, what stands for the refusal.
 unfoldable pub require : {A : Type 0} → Bool → A → A → A
-require b no_result rest = if b then rest else no_result
+require b no_result rest = when b then rest else no_result
 
 -- every element passes
 unfoldable pub every : {A : Type 0} → (A → Bool) → List A → Bool
@@ -26,7 +26,7 @@ distinct (x ∷ l) = every (λ y. not (nat_eq x y)) l && distinct l
 -- the least number below n at which f passes, n where there is none
 unfoldable pub first : (ℕ → Bool) → ℕ → ℕ
 first f zero = zero
-first f (suc n) = if nat_lt (first f n) n then first f n else if f n then n else suc n
+first f (suc n) = when nat_lt (first f n) n then first f n else when f n then n else suc n
 
 -- f 0, f 1, .., n of them
 unfoldable pub table : {A : Type 0} → ℕ → (ℕ → A) → List A

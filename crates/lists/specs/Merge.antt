@@ -5,7 +5,7 @@ use Rattle.std.proofs.Math.Decide.{ℕ_discrete}
 use Rattle.std.specs.Int.Bits.{bit_or, or_add_and}
 use Rattle.std.proofs.lemmas.Nat.{and_le_l, and_le_r}
 use Rattle.std.proofs.Math.Seq.{take-length}
-use Rattle.lists.specs.Basics.{if◌then◌else◌, Mem, every, distinct, table}
+use Rattle.lists.specs.Basics.{when◌then◌else◌, Mem, every, distinct, table}
 use Rattle.lists.specs.Members.{mem_split, mem_left, mem_right}
 use Rattle.lists.specs.Tests.{and_true, says_and, says_as, says_eq, says_not, says_same, says_so, says_every, Distinct, says_distinct}
 use Rattle.lists.specs.Blocks.{table_of}
@@ -99,14 +99,14 @@ merged_zeros l r e =
     ∙ sym (every_append (λ x. nat_eq x 0) l r)
 
 -- A test that fails is 1, one that passes 0.
-pub failure_test : (b : Bool) → nat_eq (if b then 0 else 1) 0 ≡ b
-unfolding if◌then◌else◌
+pub failure_test : (b : Bool) → nat_eq (when b then 0 else 1) 0 ≡ b
+unfolding when◌then◌else◌
 failure_test true = refl
 failure_test false = refl
 
 -- A number that counts only where a test passes.
-pub when_test : (b : Bool) (x : ℕ) → nat_eq (if b then x else 0) 0 ≡ (not b || nat_eq x 0)
-unfolding if◌then◌else◌
+pub when_test : (b : Bool) (x : ℕ) → nat_eq (when b then x else 0) 0 ≡ (not b || nat_eq x 0)
+unfolding when◌then◌else◌
 when_test true x = refl
 when_test false x = refl
 
@@ -203,14 +203,14 @@ pub distinct_none : (ids : ℕ → ℕ) → distinct (table 0 ids) ≡ true
 unfolding table distinct
 distinct_none ids = refl
 
-pub merged_next : (ids : ℕ → ℕ) (n x : ℕ) → x ≡ merged n (λ j. if unlike (ids j) (ids n) then 0 else 1) → (distinct (table n ids) && nat_eq x 0) ≡ distinct (table (n + 1) ids)
+pub merged_next : (ids : ℕ → ℕ) (n x : ℕ) → x ≡ merged n (λ j. when unlike (ids j) (ids n) then 0 else 1) → (distinct (table n ids) && nat_eq x 0) ≡ distinct (table (n + 1) ids)
 merged_next ids n x e =
     ap (λ z. distinct (table n ids) && z) (ap (λ z. nat_eq z 0) e ∙ merged_test _ (λ y. unlike y (ids n)) ids n (λ j l. failure_test (unlike (ids j) (ids n))))
     ∙ sym (distinct_next ids n)
 
 pub merged_four : (ids : ℕ → ℕ) (n x y : ℕ)
-    → x ≡ merged n (λ j. if unlike_all (ids n) (ids (n + 1)) (ids (n + 2)) (ids (n + 3)) (ids j) then 0 else 1)
-    → y ≡ (if all_unlike (ids n) (ids (n + 1)) (ids (n + 2)) (ids (n + 3)) then 0 else 1)
+    → x ≡ merged n (λ j. when unlike_all (ids n) (ids (n + 1)) (ids (n + 2)) (ids (n + 3)) (ids j) then 0 else 1)
+    → y ≡ (when all_unlike (ids n) (ids (n + 1)) (ids (n + 2)) (ids (n + 3)) then 0 else 1)
     → (distinct (table n ids) && nat_eq (bit_or x y) 0) ≡ distinct (table (n + 4) ids)
 merged_four ids n x y ex ey =
     ap (λ z. distinct (table n ids) && z)

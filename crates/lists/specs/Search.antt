@@ -6,7 +6,7 @@ use Rattle.std.proofs.Math.Bool.{true, false}
 use Rattle.std.proofs.Math.Logic.{inl, inr, ⊎_elim}
 use Prim.Native.Nat.{ℕ, suc, zero, ◌+◌, ◌<◌}
 use borrow.Author.Tests.{lt-ltb, le-ltb}
-use Rattle.lists.specs.Basics.{if◌then◌else◌, first}
+use Rattle.lists.specs.Basics.{when◌then◌else◌, first}
 
 module _ (f : ℕ → Bool) where
   pub first_none : first f 0 ≡ 0
@@ -14,11 +14,11 @@ module _ (f : ℕ → Bool) where
   first_none = refl
 
   pub first_more : (i : ℕ) → first f i ≡ i → f i ≡ false → first f (i + 1) ≡ i + 1
-  unfolding first if◌then◌else◌
+  unfolding first when◌then◌else◌
   first_more i p q = rw (add-one, p, le-ltb i i (omega arith), q)
 
   pub first_at : (n i : ℕ) → first f i ≡ i → f i ≡ true → i < n → first f n ≡ i
-  unfolding first if◌then◌else◌
+  unfolding first when◌then◌else◌
   first_at zero i p q h = absurd (omega arith)
   first_at (suc n) i p q h =
       ⊎_elim
@@ -37,7 +37,7 @@ module _ (f : ℕ → Bool) where
     pub none : (i : ℕ) → i < n → f i ≡ false
 
   pub search_ends : (n : ℕ) → Located n ⊎ Missed n
-  unfolding first if◌then◌else◌
+  unfolding first when◌then◌else◌
   search_ends zero = inr (record { end = refl; none = λ i h. absurd (omega arith) })
   search_ends (suc n) = go (search_ends n) (f n) refl
     where

@@ -2,7 +2,7 @@
 use Rattle.std.specs.Prelude.{◌≡◌, refl, ◌⊎◌, Bool, true, false, not, ◌&&◌, ◌||◌, List, [], ◌∷◌, ℕ, ◌+◌, ◌≤◌, ◌<◌, T, nat_le, nat_lt, nat_eq}
 use Rattle.std.proofs.Common.{sym, subst, inl, inr, arith, leb→le, le→leb, ltb→lt, lt→ltb, eqb→eq, T_not}
 use Rattle.std.proofs.Math.Dec.{eqb_refl, not_T}
-use Rattle.lists.specs.Basics.{if◌then◌else◌, Mem, every, distinct}
+use Rattle.lists.specs.Basics.{when◌then◌else◌, Mem, every, distinct}
 
 pub and_left : (a b : Bool) → T (a && b) → T a
 and_left true b t = tt
@@ -57,11 +57,11 @@ module _ {a b : Bool} {P Q : Type 0} (p : Says a P) (q : Says b Q) where
       back false k = elim k [ inl x ↦ absurd x | inr x ↦ x ]
 
 -- a choice between two tests: each arm under what chose it
-pub says_if : {a b c : Bool} {P Q R : Type 0} → Says a P → Says b Q → Says c R → Says (if a then b else c) ((P → Q) × (¬ P → R))
-unfolding if◌then◌else◌
+pub says_if : {a b c : Bool} {P Q R : Type 0} → Says a P → Says b Q → Says c R → Says (when a then b else c) ((P → Q) × (¬ P → R))
+unfolding when◌then◌else◌
 says_if {a} {b} {c} {P} {Q} {R} p q r = go a p
   where
-    go : (a : Bool) → Says a P → Says (if a then b else c) ((P → Q) × (¬ P → R))
+    go : (a : Bool) → Says a P → Says (when a then b else c) ((P → Q) × (¬ P → R))
     go true s = record { to = λ t. ((λ x. q.to t), λ n. absurd (n (s.to tt))); fro = λ k. q.fro (k.0 (s.to tt)) }
     go false s = record { to = λ t. ((λ x. absurd (s.fro x)), λ n. r.to t); fro = λ k. r.fro (k.1 s.fro) }
 

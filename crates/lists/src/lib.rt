@@ -1,8 +1,9 @@
 // Tests put together without a branch at the caller, so that loops over them have none either. (The laws of tests, lists and
 // counting that the crates above cite are in specs/.)
 #![tactic(auto)]
+
 ghost use Rattle.std.specs.Prelude.{◌≡◌, ◌&&◌, ◌||◌, not};
-ghost use Rattle.lists.specs.Basics.{if◌then◌else◌};
+ghost use Rattle.lists.specs.Basics.{when◌then◌else◌};
 
 pub fn both(a: bool, b: bool) -> bool
     ensures { result ≡ (a && b) }
@@ -23,7 +24,7 @@ pub fn either(a: bool, b: bool) -> bool
 }
 
 pub fn pick(test: bool, a: bool, b: bool) -> bool
-    ensures { result ≡ (if test then a else b) }
+    ensures { result ≡ (when test then a else b) }
 {
     if test {
         return a;
@@ -33,7 +34,7 @@ pub fn pick(test: bool, a: bool, b: bool) -> bool
 
 // 1 where the test fails, so that failures can be merged by `|` and looked at once, at the end.
 pub fn failure(test: bool) -> u32
-    ensures { result ≡ (if test then 0 else 1) }
+    ensures { result ≡ (when test then 0 else 1) }
 {
     if test {
         return 0;
@@ -43,7 +44,7 @@ pub fn failure(test: bool) -> u32
 
 // The number where the test passes, else 0: a failure that counts only then.
 pub fn when(test: bool, x: u32) -> u32
-    ensures { result ≡ (if test then x else 0) }
+    ensures { result ≡ (when test then x else 0) }
 {
     if test {
         return x;

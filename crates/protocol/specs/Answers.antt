@@ -1,6 +1,6 @@
 -- Document 01, 'Answers', and the numbers that calls return: its number and values for each case of an enum. And the tally.
 use Rattle.std.specs.Prelude.{List, [], ◌∷◌, ℕ, ◌+◌, nat_lt, nat_eq, get_or}
-use Rattle.lists.specs.Basics.{if◌then◌else◌}
+use Rattle.lists.specs.Basics.{when◌then◌else◌}
 use Rattle.protocol.specs.declared.Answer.{Answer}
 use Rattle.protocol.specs.declared.Answer.TheVariants.{Quiet, Found, Entered, Gone, JoinTurnedAway, LeaveTurnedAway, Joined, Left}
 use Rattle.protocol.specs.declared.Outcome.{Outcome}
@@ -53,7 +53,7 @@ roll_words (Length n) = n ∷ []
 
 -- The tally: 'nine counts (kinds 0 to 7, refused)', one raised by each step; 'a count at 18446744073709551615 stays'.
 unfoldable pub raised : ℕ → ℕ
-raised n = if nat_lt n 18446744073709551615 then n + 1 else n
+raised n = when nat_lt n 18446744073709551615 then n + 1 else n
 
 -- Which count: that of the answer's kind, and 8 for a refusal.
 unfoldable pub count_of : Outcome → ℕ
@@ -62,15 +62,15 @@ count_of (Answered a) = kind_of a
 
 unfoldable pub raised_at : ℕ → Tally → Tally
 raised_at k t = record {
-  quiet = if nat_eq k QUIET then raised t.quiet else t.quiet;
-  found = if nat_eq k FOUND then raised t.found else t.found;
-  entered = if nat_eq k ENTERED then raised t.entered else t.entered;
-  gone = if nat_eq k GONE then raised t.gone else t.gone;
-  join_turned_away = if nat_eq k JOIN_TURNED_AWAY then raised t.join_turned_away else t.join_turned_away;
-  leave_turned_away = if nat_eq k LEAVE_TURNED_AWAY then raised t.leave_turned_away else t.leave_turned_away;
-  joined = if nat_eq k JOINED then raised t.joined else t.joined;
-  left = if nat_eq k LEFT then raised t.left else t.left;
-  refused = if nat_eq k REFUSAL then raised t.refused else t.refused;
+  quiet = when nat_eq k QUIET then raised t.quiet else t.quiet;
+  found = when nat_eq k FOUND then raised t.found else t.found;
+  entered = when nat_eq k ENTERED then raised t.entered else t.entered;
+  gone = when nat_eq k GONE then raised t.gone else t.gone;
+  join_turned_away = when nat_eq k JOIN_TURNED_AWAY then raised t.join_turned_away else t.join_turned_away;
+  leave_turned_away = when nat_eq k LEAVE_TURNED_AWAY then raised t.leave_turned_away else t.leave_turned_away;
+  joined = when nat_eq k JOINED then raised t.joined else t.joined;
+  left = when nat_eq k LEFT then raised t.left else t.left;
+  refused = when nat_eq k REFUSAL then raised t.refused else t.refused;
 }
 
 unfoldable pub counted : Tally → Outcome → Tally

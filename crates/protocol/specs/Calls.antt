@@ -1,7 +1,7 @@
 -- Document 01, 'Questions before a call, in order' and 'Reading the ring': what each call gives, for every list of words.
 -- 'The first no decides. The number is returned, and no word of record or output changes.'
 use Rattle.std.specs.Prelude.{Bool, ◌&&◌, List, [], ◌∷◌, ◌++◌, ℕ, zero, suc, nat_le, nat_lt, nat_eq, length, take, drop}
-use Rattle.lists.specs.Basics.{if◌then◌else◌, require, first, distinct}
+use Rattle.lists.specs.Basics.{when◌then◌else◌, require, first, distinct}
 use Rattle.protocol.specs.declared.Answer.TheVariants.{Quiet}
 use Rattle.protocol.specs.declared.Outcome.{Outcome}
 use Rattle.protocol.specs.declared.Outcome.TheVariants.{Refused, Answered}
@@ -84,8 +84,8 @@ followed_by hub (complete l) = complete (hub ∷ l)
 unfoldable pub roll : State → ℕ → ℕ → ℕ → Traversal
 roll s start zero hub = lost
 roll s start (suc left) hub =
-    if nat_eq (row s hub).succ start then complete (hub ∷ [])
-    else if nat_eq (row s hub).succ none then lost
+    when nat_eq (row s hub).succ start then complete (hub ∷ [])
+    else when nat_eq (row s hub).succ none then lost
     else followed_by hub (roll s start left (row s hub).succ)
 
 -- What a roll call leaves: its outcome, and the lent output.

@@ -1,7 +1,7 @@
 -- Document 02, 2026-04, 'Price cards travel with the holder': the book of members and cards, the 2,113 words that stand for it and the way back,
 -- when it is well formed beside a record, and what each call that lends both slices gives, for every two lists of words.
 use Rattle.std.specs.Prelude.{Bool, ◌&&◌, List, [], ◌∷◌, ◌++◌, map, ℕ, suc, ◌+◌, ◌-◌, ◌*◌, nat_le, nat_lt, nat_eq, length, get_or, set, take, drop, replicate}
-use Rattle.lists.specs.Basics.{if◌then◌else◌, require, every, distinct, first, table, flat}
+use Rattle.lists.specs.Basics.{when◌then◌else◌, require, every, distinct, first, table, flat}
 use Rattle.protocol.specs.declared.Card.{Card}
 use Rattle.protocol.specs.declared.Answer.{Answer}
 use Rattle.protocol.specs.declared.Answer.TheVariants.{Quiet, Found, Entered, Gone, JoinTurnedAway, LeaveTurnedAway, Joined, Left}
@@ -62,7 +62,7 @@ unused_cards k = take (unused_card_words (cards_in k)) (drop (card_start (cards_
 -- The members: the hubs whose mark is 1. The first mark is that of `hub`.
 unfoldable pub marked_from : ℕ → List ℕ → List ℕ
 marked_from hub [] = []
-marked_from hub (mark ∷ marks) = if nat_eq mark 1 then hub ∷ marked_from (suc hub) marks else marked_from (suc hub) marks
+marked_from hub (mark ∷ marks) = when nat_eq mark 1 then hub ∷ marked_from (suc hub) marks else marked_from (suc hub) marks
 
 abbrev pub marked : List ℕ → List ℕ
 marked marks = marked_from 0 marks
@@ -118,7 +118,7 @@ place cards machine = first (λ j. nat_eq (get_or cards j no_card).machine machi
 -- The machine has a card, `old` at place j: one of a higher revision takes its place, and an equal one changes nothing.
 unfoldable pub renewed : List Card → ℕ → Card → Card → Offered
 renewed cards j old c =
-    if nat_lt old.revision c.revision then kept (set cards j c)
+    when nat_lt old.revision c.revision then kept (set cards j c)
     else require (nat_eq old.revision c.revision) (declined REVISION_LOWER)
     (require (nat_eq old.price c.price) (declined PRICE_DIFFERS)
     (kept cards))
@@ -126,7 +126,7 @@ renewed cards j old c =
 -- The card of a new machine goes last.
 unfoldable pub offered : List Card → Card → Offered
 offered cards c =
-    if nat_lt (place cards c.machine) (length cards)
+    when nat_lt (place cards c.machine) (length cards)
     then renewed cards (place cards c.machine) (get_or cards (place cards c.machine) no_card) c
     else require (nat_lt (length cards) most_cards) (declined CARDS_FULL) (kept (cards ++ (c ∷ [])))
 

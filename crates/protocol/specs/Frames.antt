@@ -1,7 +1,7 @@
 -- Document 01, '`ringrun`': the frame that a line is, what is printed for it, and the record's words after it.
 -- A line is its bytes without LF, which ends it.
 use Rattle.std.specs.Prelude.{Bool, ◌&&◌, ◌||◌, List, [], ◌∷◌, ◌++◌, ℕ, ◌+◌, ◌-◌, ◌*◌, ◌/◌, ◌%◌, nat_le, nat_lt, nat_eq, length, get_or, replicate}
-use Rattle.lists.specs.Basics.{if◌then◌else◌, require, every, table}
+use Rattle.lists.specs.Basics.{when◌then◌else◌, require, every, table}
 use Rattle.protocol.specs.declared.Outcome.{Outcome}
 use Rattle.protocol.specs.declared.Outcome.TheVariants.{Refused, Answered}
 use Rattle.protocol.specs.declared.Frame.{Frame}
@@ -18,10 +18,10 @@ is_digit b = (nat_le 48 b && nat_le b 57) || (nat_le 65 b && nat_le b 70)
 -- The value of a digit; of any other byte, which is never read as one, 0.
 unfoldable pub digit_value : ℕ → ℕ
 digit_value b =
-    if nat_lt b 48 then 0
-    else if nat_lt b 58 then b - 48
-    else if nat_lt b 65 then 0
-    else if nat_lt b 71 then b - 55
+    when nat_lt b 48 then 0
+    else when nat_lt b 58 then b - 48
+    else when nat_lt b 65 then 0
+    else when nat_lt b 71 then b - 55
     else 0
 
 -- The numbers that 2, 4 and 8 digits are, from a place of the line on.
@@ -54,11 +54,11 @@ frame l =
     require (nat_le (length l) 514) Unreadable
     (require (every is_digit l) Unreadable
     (require (nat_le 2 (length l)) Unreadable
-    (if nat_eq (read2 l 0) 240 then founding (length l - 2) else command l)))
+    (when nat_eq (read2 l 0) 240 then founding (length l - 2) else command l)))
 
 -- The last digit of a number, and its last 2, 4 and 8 digits.
 unfoldable pub digit_of : ℕ → ℕ
-digit_of v = if nat_lt (v % 16) 10 then 48 + v % 16 else 55 + v % 16
+digit_of v = when nat_lt (v % 16) 10 then 48 + v % 16 else 55 + v % 16
 
 unfoldable pub print2 : ℕ → List ℕ
 print2 v = digit_of (v / 16) ∷ digit_of v ∷ []

@@ -2,7 +2,7 @@
 -- All that it is fed are these answers, the identifiers and who founded the ring: nothing of the record.
 use Rattle.std.specs.Prelude.{Bool, ◌&&◌, List, [], ◌∷◌, ℕ, ◌+◌, nat_le, nat_eq, get_or}
 use Rattle.clockwise.specs.Clockwise.{dist}
-use Rattle.lists.specs.Basics.{if◌then◌else◌}
+use Rattle.lists.specs.Basics.{when◌then◌else◌}
 use Rattle.protocol.specs.declared.Message.{Message}
 use Rattle.protocol.specs.declared.Answer.{Answer}
 use Rattle.protocol.specs.declared.Answer.TheVariants.{Quiet, Found, Entered, Gone, JoinTurnedAway, LeaveTurnedAway, Joined, Left}
@@ -19,7 +19,7 @@ founding_members founder = founder ∷ []
 -- 'It takes in the hub of each entered answer and strikes off the hub of each gone answer.'
 unfoldable pub struck_off : List ℕ → ℕ → List ℕ
 struck_off [] hub = []
-struck_off (k ∷ members) hub = if nat_eq k hub then struck_off members hub else k ∷ struck_off members hub
+struck_off (k ∷ members) hub = when nat_eq k hub then struck_off members hub else k ∷ struck_off members hub
 
 unfoldable pub taken_in : List ℕ → ℕ → List ℕ
 taken_in members hub = hub ∷ struck_off members hub
@@ -42,7 +42,7 @@ after_outcome members (Answered a) = after_answer members a
 -- 1 for a member, 0 for every other number.
 unfoldable pub mark : List ℕ → ℕ → ℕ
 mark [] hub = 0
-mark (k ∷ members) hub = if nat_eq k hub then 1 else mark members hub
+mark (k ∷ members) hub = when nat_eq k hub then 1 else mark members hub
 
 -- 'The owner of v is the member with the least clockwise distance from v to its identifier; an empty set has none.'
 pub data Owner : Type 0 where
@@ -51,7 +51,7 @@ pub data Owner : Type 0 where
 
 unfoldable pub nearer : List ℕ → ℕ → ℕ → Owner → Owner
 nearer ids v hub nobody = node hub
-nearer ids v hub (node k) = if nat_le (dist round v (get_or ids hub 0)) (dist round v (get_or ids k 0)) then node hub else node k
+nearer ids v hub (node k) = when nat_le (dist round v (get_or ids hub 0)) (dist round v (get_or ids k 0)) then node hub else node k
 
 unfoldable pub owner_among : List ℕ → List ℕ → ℕ → Owner
 owner_among ids [] v = nobody
@@ -64,7 +64,7 @@ holds s hub v = responsible (row s hub) && covers (identifier s (row s hub).pred
 -- 'questions waiting are the LOOKUP messages in the record'
 unfoldable pub waiting : List Message → ℕ
 waiting [] = 0
-waiting (m ∷ messages) = (if nat_eq m.kind LOOKUP then 1 else 0) + waiting messages
+waiting (m ∷ messages) = (when nat_eq m.kind LOOKUP then 1 else 0) + waiting messages
 
 -- 'questions answered are the found answers', each here by its ticket
 abbrev pub found_ticket : Answer → List ℕ
@@ -84,4 +84,4 @@ ticket_of (Answered a) = found_ticket a
 -- 'Questions accepted are the asks in the list that were not refused': 1 for such a call
 unfoldable pub accepted_ask : ℕ → Outcome → ℕ
 accepted_ask operation (Refused k) = 0
-accepted_ask operation (Answered a) = if nat_eq operation 0 then 1 else 0
+accepted_ask operation (Answered a) = when nat_eq operation 0 then 1 else 0

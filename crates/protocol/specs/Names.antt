@@ -1,4 +1,4 @@
--- Names for the documents' numbers: states, kinds of message, kinds of answer, refusals. The code has the same, with _ for -
+-- Names for the documents' numbers: states, kinds of message, kinds of answer, refusals. The code has the same
 -- (src/: states, kinds, answer_kinds, refusals).
 use Rattle.std.specs.Prelude.{ℕ}
 

@@ -1,6 +1,6 @@
 -- Document 01, '`ringrun`': the whole program, from the bytes of its input to the bytes that it prints.
 use Rattle.std.specs.Prelude.{List, [], ◌∷◌, ◌++◌, ℕ, nat_eq, length, take, replicate}
-use Rattle.lists.specs.Basics.{if◌then◌else◌}
+use Rattle.lists.specs.Basics.{when◌then◌else◌}
 use Rattle.protocol.specs.declared.Line.{Line}
 use Rattle.protocol.specs.Record.{record_size}
 use Rattle.protocol.specs.Frames.{line_call}
@@ -8,8 +8,8 @@ use Rattle.protocol.specs.Frames.{line_call}
 -- The lines of an input, the first of which has begun with the bytes given. LF, byte 10, ends a line; the end of the input ends one that has
 -- begun, and where nothing has begun there is none.
 unfoldable pub lines_of : List ℕ → List ℕ → List (List ℕ)
-lines_of begun [] = if nat_eq (length begun) 0 then [] else begun ∷ []
-lines_of begun (b ∷ rest) = if nat_eq b 10 then begun ∷ lines_of [] rest else lines_of (begun ++ (b ∷ [])) rest
+lines_of begun [] = when nat_eq (length begun) 0 then [] else begun ∷ []
+lines_of begun (b ∷ rest) = when nat_eq b 10 then begun ∷ lines_of [] rest else lines_of (begun ++ (b ∷ [])) rest
 
 unfoldable pub text_of : Line → List ℕ
 text_of l = take l.count l.bytes
@@ -38,7 +38,7 @@ line_ended s = record {
 }
 
 unfoldable pub byte_fed : Standing → ℕ → Standing
-byte_fed s b = if nat_eq b 10 then line_ended s else record { slice = s.slice; begun = s.begun ++ (b ∷ []); printed = s.printed }
+byte_fed s b = when nat_eq b 10 then line_ended s else record { slice = s.slice; begun = s.begun ++ (b ∷ []); printed = s.printed }
 
 unfoldable pub fed : Standing → List ℕ → Standing
 fed s [] = s
@@ -46,4 +46,4 @@ fed s (b ∷ rest) = fed (byte_fed s b) rest
 
 -- the end of the input
 unfoldable pub ended : Standing → Standing
-ended s = if nat_eq (length s.begun) 0 then s else line_ended s
+ended s = when nat_eq (length s.begun) 0 then s else line_ended s

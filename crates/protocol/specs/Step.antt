@@ -1,7 +1,7 @@
 -- Document 01, 'Commands and their messages', with the questions from 3 on in their order: the one meaning of a step. (Questions 1 and 2
 -- are about the words: see `step_call`.)
 use Rattle.std.specs.Prelude.{Bool, not, ◌&&◌, ℕ, nat_lt, nat_eq, length}
-use Rattle.lists.specs.Basics.{if◌then◌else◌, require, first}
+use Rattle.lists.specs.Basics.{when◌then◌else◌, require, first}
 use Rattle.protocol.specs.declared.Answer.{Answer}
 use Rattle.protocol.specs.declared.Answer.TheVariants.{Quiet, Found}
 use Rattle.protocol.specs.declared.Route.{Route}
@@ -84,8 +84,8 @@ deliver s x y =
 -- 'operation 0 to 3? 3.'
 unfoldable pub step : State → ℕ → ℕ → ℕ → Result
 step s operation x y =
-    if nat_eq operation 0 then ask s x y
-    else if nat_eq operation 1 then join s x y
-    else if nat_eq operation 2 then leave s x
-    else if nat_eq operation 3 then deliver s x y
+    when nat_eq operation 0 then ask s x y
+    else when nat_eq operation 1 then join s x y
+    else when nat_eq operation 2 then leave s x
+    else when nat_eq operation 3 then deliver s x y
     else refused NO_OPERATION

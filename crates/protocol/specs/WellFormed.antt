@@ -1,6 +1,6 @@
 -- Document 01, 'Well formed', of the words; the part of it that is about the typed state is `formed`.
 use Rattle.std.specs.Prelude.{Bool, ◌&&◌, ◌||◌, List, map, ℕ, nat_le, nat_lt, nat_eq, get_or, take, drop}
-use Rattle.lists.specs.Basics.{if◌then◌else◌, every, distinct}
+use Rattle.lists.specs.Basics.{when◌then◌else◌, every, distinct}
 use Rattle.protocol.specs.declared.Row.{Row}
 use Rattle.protocol.specs.declared.Message.{Message}
 use Rattle.protocol.specs.Names.{LOOKUP, JOIN, JOINPOINT, NEWSUCCACK, LEAVEPOINT, INSIDE, LEAVING, OUTSIDE}
@@ -9,16 +9,16 @@ use Rattle.protocol.specs.Record.{form, most_nodes, most_messages, unused_row_wo
 -- 'States: 0 .. 4'; 'states 0 and 1 have pred and succ none, states 2 to 4 have both below n'
 unfoldable pub pointers_ok : ℕ → Row → Bool
 pointers_ok n h =
-    if nat_lt h.state INSIDE then nat_eq h.pred none && nat_eq h.succ none else nat_le h.state LEAVING && nat_lt h.pred n && nat_lt h.succ n
+    when nat_lt h.state INSIDE then nat_eq h.pred none && nat_eq h.succ none else nat_le h.state LEAVING && nat_lt h.pred n && nat_lt h.succ n
 
 -- 'lock (0 free, 1 taken)'; 'state 0 has lock 0, states 1, 3, 4 lock 1'
 unfoldable pub lock_ok : Row → Bool
-lock_ok h = if nat_eq h.state INSIDE then nat_lt h.lock 2 else if nat_eq h.state OUTSIDE then nat_eq h.lock 0 else nat_eq h.lock 1
+lock_ok h = when nat_eq h.state INSIDE then nat_lt h.lock 2 else when nat_eq h.state OUTSIDE then nat_eq h.lock 0 else nat_eq h.lock 1
 
 -- 'forward flag (0, 1)'; 'flag 1 needs state 2, lock 1 and oldpred below n; flag 0 has oldpred none'
 unfoldable pub flag_ok : ℕ → Row → Bool
 flag_ok n h =
-    if nat_eq h.flag 0 then nat_eq h.oldpred none else nat_eq h.flag 1 && nat_eq h.state INSIDE && nat_eq h.lock 1 && nat_lt h.oldpred n
+    when nat_eq h.flag 0 then nat_eq h.oldpred none else nat_eq h.flag 1 && nat_eq h.state INSIDE && nat_eq h.lock 1 && nat_lt h.oldpred n
 
 unfoldable pub row_ok : ℕ → Row → Bool
 row_ok n h = pointers_ok n h && lock_ok h && flag_ok n h
@@ -28,14 +28,14 @@ unfoldable pub names_node : ℕ → Bool
 names_node k = nat_eq k JOIN || nat_eq k JOINPOINT || nat_eq k NEWSUCCACK || nat_eq k LEAVEPOINT
 
 unfoldable pub a_ok : ℕ → Message → Bool
-a_ok n m = nat_eq m.kind LOOKUP || (if names_node m.kind then nat_lt m.a n else nat_eq m.a 0)
+a_ok n m = nat_eq m.kind LOOKUP || (when names_node m.kind then nat_lt m.a n else nat_eq m.a 0)
 
 -- 'LOOKUP has .. b below asked and hops at most 65535; .. other message fields are 0'
 unfoldable pub b_ok : ℕ → Message → Bool
-b_ok asked m = if nat_eq m.kind LOOKUP then nat_lt m.b asked else nat_eq m.b 0
+b_ok asked m = when nat_eq m.kind LOOKUP then nat_lt m.b asked else nat_eq m.b 0
 
 unfoldable pub hops_ok : Message → Bool
-hops_ok m = if nat_eq m.kind LOOKUP then nat_le m.hops 65535 else nat_eq m.hops 0
+hops_ok m = when nat_eq m.kind LOOKUP then nat_le m.hops 65535 else nat_eq m.hops 0
 
 -- 'kinds 1 to 14; from and to below n'
 unfoldable pub message_ok : ℕ → ℕ → Message → Bool

@@ -10,7 +10,7 @@ use Rattle.std.proofs.Math.ListN.{length}
 use Rattle.std.proofs.lemmas.List.{set_at, set_split}
 use Rattle.std.proofs.Math.Seq.{append_snoc}
 use borrow.Author.Tests.{eq-eqb, ne_eqb, le-leb, lt-leb}
-use Rattle.lists.specs.Basics.{if◌then◌else◌, require}
+use Rattle.lists.specs.Basics.{when◌then◌else◌, require}
 use Rattle.lists.specs.Choice.{on_yes, on_no}
 use Rattle.lists.specs.Splice.{splice}
 use Rattle.protocol.specs.declared.Roll.{Roll}
@@ -133,7 +133,7 @@ module _ (s : State) (start left node : ℕ) (out : List ℕ) (at : ℕ) where
 
   module _ (more : left ≡ 0 → ⊥) (next : ℕ) (e : next ≡ (row s node).succ) where
     abbrev onwards : ℕ → Traversal
-    onwards k = if nat_eq next start then complete (node ∷ []) else if nat_eq next none then lost else followed_by node (roll s start k next)
+    onwards k = when nat_eq next start then complete (node ∷ []) else when nat_eq next none then lost else followed_by node (roll s start k next)
 
     step : roll s start left node ≡ onwards (left - 1)
     unfolding roll
@@ -141,23 +141,23 @@ module _ (s : State) (start left node : ℕ) (out : List ℕ) (at : ℕ) where
       where
         go : (k : ℕ) → (k ≡ 0 → ⊥)
             → roll s start k node
-            ≡ (if nat_eq (row s node).succ start then complete (node ∷ [])
-            else if nat_eq (row s node).succ none then lost
+            ≡ (when nat_eq (row s node).succ start then complete (node ∷ [])
+            else when nat_eq (row s node).succ none then lost
             else followed_by node (roll s start (k - 1) (row s node).succ))
         go zero q = absurd (q refl)
         go (suc k) q = let j : suc k - 1 ≡ k = omega arith in rw j
 
     pub ends : next ≡ start → rolled ≡ rolled_from out at (complete (node ∷ []))
-    unfolding if◌then◌else◌
+    unfolding when◌then◌else◌
     ends p = ap (rolled_from out at) (step ∙ rw (eq-eqb next start p))
 
     pub lost_16 : (next ≡ start → ⊥) → next ≡ none → rolled ≡ unrolled out NO_WAY_ROUND
-    unfolding if◌then◌else◌ rolled_from
+    unfolding when◌then◌else◌ rolled_from
     lost_16 p q = ap (rolled_from out at) {y = lost} (step ∙ rw (ne_eqb next start p, eq-eqb next none q))
 
     pub goes_on : (next ≡ start → ⊥) → (next ≡ none → ⊥) → (rest : Rolled) → rolled_from out (at + 1) (roll s start (left - 1) next) ≡ rest
         → rolled ≡ after out at node rest
-    unfolding if◌then◌else◌
+    unfolding when◌then◌else◌
     goes_on p q rest r =
         ap (rolled_from out at) (step ∙ rw (ne_eqb next start p, ne_eqb next none q))
         ∙ followed_written out at node (roll s start (left - 1) next)

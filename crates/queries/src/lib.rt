@@ -1,6 +1,7 @@
 // The calls that only read the record (document 01, 'Reading the ring'): the owner query, the hub row and the roll call. Each takes
 // every slice and every number; what is wrong is refused.
 #![tactic(auto)]
+
 mod owners;
 mod rolls;
 mod rows;

@@ -1,5 +1,6 @@
 // The words of a record: reading rows and messages, and the edits of which every step is made. Where rows and messages stand is in protocol::form.
 #![tactic(auto)]
+
 mod messages;
 mod rows;
 

@@ -1,6 +1,7 @@
 // The calls of the ring on lent bytes (document 01, 'Reading the ring'), for `ring_c`: the record's words are loaded, and what the call left is
 // written back.
 #![tactic(auto)]
+
 mod foundings;
 mod results;
 

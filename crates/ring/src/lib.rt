@@ -30,6 +30,7 @@
 //     read_sheet(text, identifiers, names)        read_call      the hubs of a sheet
 //     write_sheet(names, identifiers, text)       write_call     the sheet of hubs
 #![tactic(auto)]
+
 pub use batch_tally::ask as counted_ask_route;
 pub use batches::ask as ask_route;
 pub use card_offers::offer;

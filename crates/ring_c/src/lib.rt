@@ -1,6 +1,7 @@
 // The ring for programs in C (document 01, 'Reading the ring'): the words travel as bytes, four a word, lowest first. Every length of
 // every lent slice is taken, and whatever is wrong is refused by its number. include/ring.h says the same to a C compiler.
 #![tactic(auto)]
+
 ghost use Rattle.std.specs.Prelude.{◌≡◌};
 ghost use Rattle.protocol.specs.Bytes.{step_bytes, owner_bytes, fresh_bytes, fresh_by_bytes};
 ghost use Rattle.protocol.specs.CardBytes.{step_cards_bytes, offer_bytes, fresh_cards_bytes, fresh_by_cards_bytes};

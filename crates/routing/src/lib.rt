@@ -1,6 +1,7 @@
 // Where a key goes from a node, and the questions that go there (document 01, 'Routing at hub t' and kind 1). Every function is pure and works
 // on values; its contract is an equation with the meaning in `protocol`.
 #![tactic(auto)]
+
 mod lookups;
 mod messages;
 mod rows;

@@ -1,5 +1,6 @@
 // The two calls of the office sheet on lent bytes (document 02, 2026-03), for `ring_c`: what the sheet's own call tells, with its counts as bytes.
 #![tactic(auto)]
+
 mod results;
 
 ghost use Rattle.std.specs.Prelude.{◌≡◌};

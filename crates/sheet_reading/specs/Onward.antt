@@ -8,7 +8,6 @@ use Rattle.lists.specs.Basics.{every}
 use Rattle.sheets.specs.Grammar.{quote, bare, non_zero, is_digit, worth}
 use Rattle.sheets.specs.Bytes.{every_head, every_tail, and_first, and_second, not_yes}
 use Rattle.sheet_reading.specs.Kinds.{plain_byte, quoted_byte}
-use Rattle.sheets.specs.Reader
 use Rattle.sheets.specs.declared.Place.{Place}
 use Rattle.sheets.specs.declared.Place.TheVariants.{Start, Plain, Opened, Quoted, Closed, Number, Digits, NumberOpened, NumberQuoted, NumberClosed, Return, Wrong}
 use Rattle.sheets.specs.declared.Effect.TheVariants.{Letter, Figure}

@@ -8,7 +8,7 @@ use native.Mathlib.Omega.{arith}
 use borrow.Author.Tests.{ltb-true, ltb-false, eqb-true, eqb-false}
 use Rattle.std.proofs.Common.{nat_lt, nat_eq}
 use Rattle.std.proofs.Math.ListN.{length, set, length-append}
-use Rattle.lists.specs.Basics.{if◌then◌else◌, every}
+use Rattle.lists.specs.Basics.{when◌then◌else◌, every}
 use Rattle.lists.specs.Splice.{splice}
 use Rattle.sheet_reading.specs.declared.Put.{Put}
 use Rattle.sheet_reading.specs.declared.RowPut.{RowPut}
@@ -60,10 +60,10 @@ quoted_copies = record { stays = quoted_stays []; letter = refl; within = refl; 
 
 -- The two that there are, by the byte that ends the copy.
 unfoldable pub place_for : ℕ → Place
-place_for stop = if nat_eq stop comma then Plain else Quoted
+place_for stop = when nat_eq stop comma then Plain else Quoted
 
 unfoldable pub test_for : ℕ → ℕ → Bool
-test_for stop b = if nat_eq stop comma then plain_byte b else quoted_byte b
+test_for stop b = when nat_eq stop comma then plain_byte b else quoted_byte b
 
 -- Bytes copied up to the one that ends them.
 pub record Copied (t : List ℕ) (i j stop : ℕ) (names₀ : List ℕ) (at : ℕ) (names : List ℕ) : Type 0 where
@@ -204,7 +204,7 @@ module _ (t : List ℕ) (i at room : ℕ) where
   -- an unquoted name with its comma
   module _ (r : Readable t Start i at room) (h : i < length t) (k : get_or t i 0 ≡ quote → ⊥) (names₀ u : List ℕ) (j : ℕ) (c : Copied t i j comma names₀ at u) where
     plain_leads : (n m : List ℕ) (v : ℕ) → onward t Start n m v i ≡ onward t Number (n ++ (between i j t ++ (0 ∷ []))) m 0 (j + 1)
-    unfolding test_for if◌then◌else◌
+    unfolding test_for when◌then◌else◌
     plain_leads n m v =
         onward_as t Start n m v i h Plain (Nexts.start_plain (get_or t i 0) k) ∙ plain_over t i j c.from c.passed n m v
         ∙ onward_number t Plain (n ++ between i j t) m v j c.within (Nexts.plain_comma (get_or t j 0) c.ended) ∙ ap (λ x. onward t Number x m 0 (j + 1)) (append_assoc n (between i j t) (0 ∷ []))
@@ -317,7 +317,7 @@ module _ (t : List ℕ) (i at room : ℕ) where
         }
 
         pub copying_more : (w : List ℕ) (l : ℕ) → Copied t (j + 2) l quote (set u k quote) (k + 1) w → Copying t i names₀ at l (k + 1 + (l - (j + 2))) w
-        unfolding test_for if◌then◌else◌
+        unfolding test_for when◌then◌else◌
         copying_more w l d =
             let f = c.from in
             let g = d.from in
@@ -378,7 +378,7 @@ module _ (t : List ℕ) (i at room : ℕ) where
   -- the bytes up to the first quote, and the rest
   module _ (r : Readable t Quoted i at room) (names₀ u : List ℕ) (j : ℕ) (c : Copied t i j quote names₀ at u) where
     quoted_leads : (n m : List ℕ) (v : ℕ) → onward t Quoted n m v i ≡ onward t Quoted (n ++ between i j t) m v j
-    unfolding test_for if◌then◌else◌
+    unfolding test_for when◌then◌else◌
     quoted_leads n m v = quoted_over t i j c.from c.passed n m v
 
     size : length (between i j t) ≡ j - i

@@ -1,6 +1,7 @@
 // The office sheet read (document 02, 2026-03). Reading goes over the text twice: judging.rt says whether it is a sheet and what it needs, and only
 // then filling.rt and carried.rt write.
 #![tactic(auto)]
+
 mod bytes;
 mod carried;
 mod copying;

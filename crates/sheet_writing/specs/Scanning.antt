@@ -7,7 +7,7 @@ use Rattle.std.proofs.Math.Nat.{add-zero}
 use native.Mathlib.Omega.{arith}
 use Rattle.std.proofs.Math.ListN.{length, drop, get_or}
 use Rattle.std.proofs.Math.Seq.{drop-length}
-use Rattle.lists.specs.Basics.{if◌then◌else◌, every}
+use Rattle.lists.specs.Basics.{when◌then◌else◌, every}
 use Rattle.lists.specs.Choice.{choose}
 use Rattle.lists.specs.Tests.{and_true, says_same, says_as, says_lt}
 use Rattle.sheet_writing.specs.declared.Scan.{Scan}
@@ -20,7 +20,7 @@ use Rattle.sheets.specs.Decimal.{length_last}
 use Rattle.sheets.specs.Buffers.{first_zero, first_more}
 
 abbrev pub one : Bool → ℕ
-one t = if t then 1 else 0
+one t = when t then 1 else 0
 
 unfoldable pub quotes : List ℕ → ℕ
 quotes [] = 0
@@ -36,20 +36,20 @@ quote_if false = quote ∷ []
 
 unfoldable pub less_by : Room → ℕ → Room
 less_by Short k = Short
-less_by (Left n) k = if nat_lt n k then Short else Left (n - k)
+less_by (Left n) k = when nat_lt n k then Short else Left (n - k)
 
 unfoldable pub row_size : Scan → ℕ → ℕ
 row_size s v = s.length + s.quotes + (length (quote_if s.plain) + length (quote_if s.plain)) + (digit_count v + 3)
 
 -- the room of one part, then of another
-less_again : (n a b : ℕ) (t : Bool) → nat_lt n a ≡ t → less_by (if t then Short else Left (n - a)) b ≡ less_by (Left n) (a + b)
-unfolding less_by if◌then◌else◌
+less_again : (n a b : ℕ) (t : Bool) → nat_lt n a ≡ t → less_by (when t then Short else Left (n - a)) b ≡ less_by (Left n) (a + b)
+unfolding less_by when◌then◌else◌
 less_again n a b true e = let h = ltb-true n a e in rw (lt-ltb n (a + b) (omega arith))
 less_again n a b false e =
     let h = ltb-false n a e in
     let k : nat_lt (n - a) b ≡ nat_lt n (a + b) = says_same (says_lt (n - a) b) (says_as (says_lt n (a + b)) (λ k. omega arith) (λ k. omega arith)) in
     let m : n - a - b ≡ n - (a + b) = omega arith in
-    ap₂ (λ t x. if t then Short else Left x) k m
+    ap₂ (λ t x. when t then Short else Left x) k m
 
 pub less_less : (r : Room) (a b : ℕ) → less_by (less_by r a) b ≡ less_by r (a + b)
 unfolding less_by
@@ -57,57 +57,57 @@ less_less Short a b = refl
 less_less (Left n) a b = less_again n a b (nat_lt n a) refl
 
 pub less_none : (r : Room) → r ≡ less_by r 0
-unfolding less_by if◌then◌else◌
+unfolding less_by when◌then◌else◌
 less_none Short = refl
 less_none (Left n) = rw (le-ltb n 0 (omega arith)) (ap Left (let e : n ≡ n - 0 = omega arith in e))
 
 pub less_left : (n k m : ℕ) → Left m ≡ less_by (Left n) k → k ≤ n
-unfolding less_by if◌then◌else◌
+unfolding less_by when◌then◌else◌
 less_left n k m e = go (nat_lt n k) refl e
   where
-    go : (t : Bool) → nat_lt n k ≡ t → Left m ≡ (if t then Short else Left (n - k)) → k ≤ n
+    go : (t : Bool) → nat_lt n k ≡ t → Left m ≡ (when t then Short else Left (n - k)) → k ≤ n
     go true q e = absurd (let z : ◌≡◌ {A = ℕ} 0 1 = cc in omega arith)
     go false q e = ltb-false n k q
 
 pub less_short : (n k : ℕ) → Short ≡ less_by (Left n) k → n < k
-unfolding less_by if◌then◌else◌
+unfolding less_by when◌then◌else◌
 less_short n k e = go (nat_lt n k) refl e
   where
-    go : (t : Bool) → nat_lt n k ≡ t → Short ≡ (if t then Short else Left (n - k)) → n < k
+    go : (t : Bool) → nat_lt n k ≡ t → Short ≡ (when t then Short else Left (n - k)) → n < k
     go true q e = ltb-true n k q
     go false q e = absurd (let z : ◌≡◌ {A = ℕ} 0 1 = cc in omega arith)
 
 -- quotes that are doubled
 pub doubled_append : (s t : List ℕ) → doubled (s ++ t) ≡ doubled s ++ doubled t
-unfolding doubled if◌then◌else◌
+unfolding doubled when◌then◌else◌
 doubled_append [] t = refl
 doubled_append (b ∷ s) t = go (nat_eq b quote) (doubled_append s t)
   where
     go : (q : Bool) → doubled (s ++ t) ≡ doubled s ++ doubled t
-        → (if q then quote ∷ quote ∷ doubled (s ++ t) else b ∷ doubled (s ++ t)) ≡ (if q then quote ∷ quote ∷ doubled s else b ∷ doubled s) ++ doubled t
+        → (when q then quote ∷ quote ∷ doubled (s ++ t) else b ∷ doubled (s ++ t)) ≡ (when q then quote ∷ quote ∷ doubled s else b ∷ doubled s) ++ doubled t
     go true e = ap (λ l. quote ∷ quote ∷ l) e
     go false e = ap (λ l. b ∷ l) e
 
 pub length_doubled : (s : List ℕ) → length (doubled s) ≡ length s + quotes s
-unfolding doubled quotes if◌then◌else◌
+unfolding doubled quotes when◌then◌else◌
 length_doubled [] = refl
 length_doubled (b ∷ s) = go (nat_eq b quote) (length_doubled s)
   where
-    go : (q : Bool) → length (doubled s) ≡ length s + quotes s → length (if q then quote ∷ quote ∷ doubled s else b ∷ doubled s) ≡ suc (length s) + (one q + quotes s)
+    go : (q : Bool) → length (doubled s) ≡ length s + quotes s → length (when q then quote ∷ quote ∷ doubled s else b ∷ doubled s) ≡ suc (length s) + (one q + quotes s)
     go true e = omega arith
     go false e = omega arith
 
 pub bare_single : (s : List ℕ) → every bare s ≡ true → doubled s ≡ s
-unfolding doubled if◌then◌else◌
+unfolding doubled when◌then◌else◌
 bare_single [] e = refl
 bare_single (b ∷ s) e = rw (bare_quote b (every_head bare b s e)) (ap (λ l. b ∷ l) (bare_single s (every_tail bare b s e)))
 
 -- a name's text is the name with its quotes doubled, between two quotes or none
 pub name_parts : (s : List ℕ) → name_text s ≡ quote_if (every bare s) ++ (doubled s ++ quote_if (every bare s))
-unfolding name_text quote_if if◌then◌else◌
+unfolding name_text quote_if when◌then◌else◌
 name_parts s = go (every bare s) refl
   where
-    go : (t : Bool) → every bare s ≡ t → (if t then s else quote ∷ (doubled s ++ (quote ∷ []))) ≡ quote_if t ++ (doubled s ++ quote_if t)
+    go : (t : Bool) → every bare s ≡ t → (when t then s else quote ∷ (doubled s ++ (quote ∷ []))) ≡ quote_if t ++ (doubled s ++ quote_if t)
     go true e = sym (append-nil (doubled s) ∙ bare_single s e)
     go false e = refl
 
@@ -122,7 +122,7 @@ row_size_lem s v =
     omega arith
 
 pub one_small : (t : Bool) → one t ≤ 1
-unfolding if◌then◌else◌
+unfolding when◌then◌else◌
 one_small true = omega arith
 one_small false = omega arith
 
@@ -131,10 +131,10 @@ and_assoc true b c = refl
 and_assoc false b c = refl
 
 zeros_head : (b : ℕ) (s : List ℕ) → zeros (b ∷ s) ≡ one (nat_eq b 0) + zeros s
-unfolding zeros if◌then◌else◌
+unfolding zeros when◌then◌else◌
 zeros_head b s = go (nat_eq b 0)
   where
-    go : (t : Bool) → (if t then 1 + zeros s else zeros s) ≡ one t + zeros s
+    go : (t : Bool) → (when t then 1 + zeros s else zeros s) ≡ one t + zeros s
     go true = refl
     go false = omega arith
 

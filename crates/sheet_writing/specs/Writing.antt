@@ -7,7 +7,7 @@ use Rattle.std.proofs.Math.Dec.{eqb→eq}
 use Rattle.std.proofs.Math.ListN.{drop, get_or}
 use Rattle.std.proofs.Math.Seq.{drop-length, append_snoc}
 use Rattle.std.proofs.lemmas.List.{take-set-le}
-use Rattle.lists.specs.Basics.{if◌then◌else◌, every}
+use Rattle.lists.specs.Basics.{when◌then◌else◌, every}
 use Rattle.lists.specs.Choice.{on_yes, on_no}
 use Rattle.lists.specs.Tests.{and_left, true_T}
 use Rattle.lists.specs.Splice.{splice}
@@ -77,7 +77,7 @@ digits_all w t at count v left rest e k = digits_end w t at count v rest (subst 
 
 -- A name: its first i bytes are written.
 pub double_room : (l : List ℕ) (i n : ℕ) → i ≤ n → length (doubled (take i l)) ≤ length (doubled (take n l))
-unfolding doubled if◌then◌else◌
+unfolding doubled when◌then◌else◌
 double_room [] zero n h = omega arith
 double_room [] (suc i) n h = omega arith
 double_room (b ∷ l) zero n h = omega arith
@@ -85,7 +85,7 @@ double_room (b ∷ l) (suc i) zero h = absurd (omega arith)
 double_room (b ∷ l) (suc i) (suc n) h = go (nat_eq b quote) (double_room l i n (omega arith))
   where
     go : (q : Bool) → length (doubled (take i l)) ≤ length (doubled (take n l))
-        → length (if q then quote ∷ quote ∷ doubled (take i l) else b ∷ doubled (take i l)) ≤ length (if q then quote ∷ quote ∷ doubled (take n l) else b ∷ doubled (take n l))
+        → length (when q then quote ∷ quote ∷ doubled (take i l) else b ∷ doubled (take i l)) ≤ length (when q then quote ∷ quote ∷ doubled (take n l) else b ∷ doubled (take n l))
     go true e = omega arith
     go false e = omega arith
 
@@ -123,20 +123,20 @@ doubling_more w t l at i n to h k fits d =
 
 -- a name is the bytes before its zero byte
 pub first_take : (l : List ℕ) → take (length (first_name l)) l ≡ first_name l
-unfolding first_name if◌then◌else◌
+unfolding first_name when◌then◌else◌
 first_take [] = refl
 first_take (b ∷ l) = go (nat_eq b 0) (first_take l)
   where
-    go : (t : Bool) → take (length (first_name l)) l ≡ first_name l → take (length (if t then [] else b ∷ first_name l)) (b ∷ l) ≡ (if t then [] else b ∷ first_name l)
+    go : (t : Bool) → take (length (first_name l)) l ≡ first_name l → take (length (when t then [] else b ∷ first_name l)) (b ∷ l) ≡ (when t then [] else b ∷ first_name l)
     go true e = refl
     go false e = ap (λ k. b ∷ k) e
 
 pub first_length : (l : List ℕ) → length (first_name l) ≤ length l
-unfolding first_name if◌then◌else◌
+unfolding first_name when◌then◌else◌
 first_length [] = omega arith
 first_length (b ∷ l) = go (nat_eq b 0) (first_length l)
   where
-    go : (t : Bool) → length (first_name l) ≤ length l → length (if t then [] else b ∷ first_name l) ≤ suc (length l)
+    go : (t : Bool) → length (first_name l) ≤ length l → length (when t then [] else b ∷ first_name l) ≤ suc (length l)
     go true e = omega arith
     go false e = omega arith
 

@@ -1,5 +1,6 @@
 // The office sheet written (document 02, 2026-03): the room is counted before the first byte is written.
 #![tactic(auto)]
+
 mod decimals;
 mod rows;
 mod scanning;

@@ -3,7 +3,7 @@ use Rattle.std.specs.Prelude.{◌≡◌, refl, ◌⊎◌, Bool, true, false, ℕ
 use Rattle.std.proofs.Math.Path.{ap}
 use Rattle.std.proofs.Common.{ap₂, sym, ◌∙◌, inl, inr, arith, eqb→eq}
 use mathlib.Core.List.{List, [], ◌∷◌, ◌++◌, append_assoc, append-nil}
-use Rattle.lists.specs.Basics.{if◌then◌else◌, every}
+use Rattle.lists.specs.Basics.{when◌then◌else◌, every}
 use Rattle.lists.specs.Tests.{true_T}
 use Rattle.sheets.specs.Grammar.{Row, quote, comma, cr, lf, bare, non_zero, is_digit, doubled, worth, Field, plain, quoted, RowText, row, Sheet, empty, last, more}
 use Rattle.sheets.specs.Reader
@@ -70,11 +70,11 @@ module _ (p : Place) (n i t : List ℕ) (v b : ℕ) where
 
 -- where the bytes of a field lead to
 plain_next : (b : ℕ) → bare b ≡ true → non_zero b ≡ true → Reader.unquoted b ≡ Plain
-unfolding Reader.unquoted if◌then◌else◌
+unfolding Reader.unquoted when◌then◌else◌
 plain_next b e z = rw (bare_comma b e, not_zero b z, e)
 
 start_next : (b : ℕ) → bare b ≡ true → non_zero b ≡ true → next Start b ≡ Plain
-unfolding next if◌then◌else◌
+unfolding next when◌then◌else◌
 start_next b e z = rw (bare_quote b e) (plain_next b e z)
 
 pub in_next : (b : ℕ) → bare b ≡ true → non_zero b ≡ true → next Plain b ≡ Plain
@@ -82,32 +82,32 @@ unfolding next
 in_next b e z = plain_next b e z
 
 pub quoted_next : (b : ℕ) → nat_eq b quote ≡ false → non_zero b ≡ true → next Quoted b ≡ Quoted
-unfolding next Reader.quoted if◌then◌else◌
+unfolding next Reader.quoted when◌then◌else◌
 quoted_next b e z = rw (e, not_zero b z)
 
 pub number_next : (b : ℕ) → is_digit b ≡ true → next Number b ≡ Digits
-unfolding next Reader.number if◌then◌else◌
+unfolding next Reader.number when◌then◌else◌
 number_next b e = rw (digit_quote b e, e)
 
 pub digits_next : (b : ℕ) → is_digit b ≡ true → next Digits b ≡ Digits
-unfolding next Reader.digits if◌then◌else◌
+unfolding next Reader.digits when◌then◌else◌
 digits_next b e = rw e
 
 pub opened_next : (b : ℕ) → is_digit b ≡ true → next NumberOpened b ≡ NumberQuoted
-unfolding next if◌then◌else◌
+unfolding next when◌then◌else◌
 opened_next b e = rw e
 
 pub number_quoted_next : (b : ℕ) → is_digit b ≡ true → next NumberQuoted b ≡ NumberQuoted
-unfolding next Reader.number_quoted if◌then◌else◌
+unfolding next Reader.number_quoted when◌then◌else◌
 number_quoted_next b e = rw (digit_quote b e, e)
 
 -- the bytes that a sheet tells apart
 pub marks : (next Start quote ≡ Opened) × (next Start comma ≡ Number) × (next Plain comma ≡ Number) × (next Quoted quote ≡ Closed) × (next Closed quote ≡ Quoted) × (next Closed comma ≡ Number)
-unfolding next Reader.unquoted Reader.quoted Reader.closed if◌then◌else◌
+unfolding next Reader.unquoted Reader.quoted Reader.closed when◌then◌else◌
 marks = (refl, refl, refl, refl, refl, refl)
 
 pub number_marks : (next Number quote ≡ NumberOpened) × (next NumberQuoted quote ≡ NumberClosed) × (next Digits cr ≡ Return) × (next NumberClosed cr ≡ Return) × (next Return lf ≡ Start)
-unfolding next Reader.number Reader.number_quoted Reader.digits Reader.row_end is_digit if◌then◌else◌
+unfolding next Reader.number Reader.number_quoted Reader.digits Reader.row_end is_digit when◌then◌else◌
 number_marks = (refl, refl, refl, refl, refl)
 
 -- an unquoted name, and the comma behind it
@@ -122,7 +122,7 @@ plain_run (b ∷ s) n i t v e z =
 -- a quoted name, from behind its first quote on
 quoted_run : (s n i t : List ℕ) (v : ℕ) → every non_zero s ≡ true
     → run (standing Quoted n i v) (doubled s ++ (quote ∷ comma ∷ t)) ≡ run (standing Number (n ++ (s ++ (0 ∷ []))) i 0) t
-unfolding doubled if◌then◌else◌
+unfolding doubled when◌then◌else◌
 quoted_run [] n i t v z = to_closed Quoted n i (comma ∷ t) v quote marks.3 ∙ to_number Closed n i t v comma marks.5
 quoted_run (b ∷ s) n i t v z = go (nat_eq b quote) refl (quoted_run s (n ++ (b ∷ [])) i t v (every_tail non_zero b s z))
   where
@@ -131,7 +131,7 @@ quoted_run (b ∷ s) n i t v z = go (nat_eq b quote) refl (quoted_run s (n ++ (b
 
     go : (a : Bool) → nat_eq b quote ≡ a
         → run (standing Quoted (n ++ (b ∷ [])) i v) rest ≡ run (standing Number ((n ++ (b ∷ [])) ++ (s ++ (0 ∷ []))) i 0) t
-        → run (standing Quoted n i v) ((if a then quote ∷ quote ∷ doubled s else b ∷ doubled s) ++ (quote ∷ comma ∷ t))
+        → run (standing Quoted n i v) ((when a then quote ∷ quote ∷ doubled s else b ∷ doubled s) ++ (quote ∷ comma ∷ t))
         ≡ run (standing Number (n ++ ((b ∷ s) ++ (0 ∷ []))) i 0) t
     go true q ih =
         to_closed Quoted n i (quote ∷ rest) v quote marks.3
@@ -150,12 +150,12 @@ unfolding run fed moved next
 opened_run n i t v b = refl
 
 opened_name : (s n i t : List ℕ) (v : ℕ) → run (standing Opened n i v) (doubled s ++ (quote ∷ comma ∷ t)) ≡ run (standing Quoted n i v) (doubled s ++ (quote ∷ comma ∷ t))
-unfolding doubled if◌then◌else◌
+unfolding doubled when◌then◌else◌
 opened_name [] n i t v = opened_run n i (comma ∷ t) v quote
 opened_name (b ∷ s) n i t v = go (nat_eq b quote)
   where
-    go : (a : Bool) → run (standing Opened n i v) ((if a then quote ∷ quote ∷ doubled s else b ∷ doubled s) ++ (quote ∷ comma ∷ t))
-        ≡ run (standing Quoted n i v) ((if a then quote ∷ quote ∷ doubled s else b ∷ doubled s) ++ (quote ∷ comma ∷ t))
+    go : (a : Bool) → run (standing Opened n i v) ((when a then quote ∷ quote ∷ doubled s else b ∷ doubled s) ++ (quote ∷ comma ∷ t))
+        ≡ run (standing Quoted n i v) ((when a then quote ∷ quote ∷ doubled s else b ∷ doubled s) ++ (quote ∷ comma ∷ t))
     go true = opened_run n i (quote ∷ (doubled s ++ (quote ∷ comma ∷ t))) v quote
     go false = opened_run n i (doubled s ++ (quote ∷ comma ∷ t)) v b
 
@@ -184,7 +184,7 @@ digits_run (b ∷ s) n i v e =
     ∙ digits_run s n i (10 * v + (b - 48)) (every_tail is_digit b s e)
 
 number_quoted_run : (s n i : List ℕ) (v : ℕ) → every is_digit s ≡ true → run (standing NumberQuoted n i v) (doubled s ++ (quote ∷ [])) ≡ standing NumberClosed n i (worth v s)
-unfolding worth doubled run if◌then◌else◌
+unfolding worth doubled run when◌then◌else◌
 number_quoted_run [] n i v e = to_numberclosed NumberQuoted n i [] v quote number_marks.1
 number_quoted_run (b ∷ s) n i v e =
     rw (digit_quote b (every_head is_digit b s e))
@@ -193,7 +193,7 @@ number_quoted_run (b ∷ s) n i v e =
 
 number_run : {g s : List ℕ} → Field g s → (n i : List ℕ) (v : ℕ) → every is_digit s ≡ true → 1 ≤ length s
     → (run (standing Number n i v) g ≡ standing Digits n i (worth v s)) ⊎ (run (standing Number n i v) g ≡ standing NumberClosed n i (worth v s))
-unfolding worth doubled if◌then◌else◌
+unfolding worth doubled when◌then◌else◌
 number_run (plain {s} d) n i v e l = inl (go s e l)
   where
     go : (s : List ℕ) → every is_digit s ≡ true → 1 ≤ length s → run (standing Number n i v) s ≡ standing Digits n i (worth v s)

@@ -1,7 +1,7 @@
 -- The readings of the sheet's edge cases, computed. Assumes nothing.
 use Rattle.std.specs.Prelude.{◌≡◌, refl, List, [], ◌∷◌}
 use Rattle.std.proofs.Common.{arith}
-use Rattle.lists.specs.Basics.{if◌then◌else◌, every, All}
+use Rattle.lists.specs.Basics.{when◌then◌else◌, every, All}
 use Rattle.sheets.specs.Grammar.{Row, bare, non_zero, doubled, is_digit}
 use Rattle.sheets.specs.Rows.{names_of, identifiers_of}
 use Rattle.sheets.specs.Reader
@@ -13,7 +13,7 @@ use Rattle.sheets.proofs.Theorem.{round_trip}
 -- "a""b",007 CR LF ,"4294967296" : two rows, the second without a name, its number too large (which is 20), the last CR LF missing.
 pub two_rows : reading (34 ∷ 97 ∷ 34 ∷ 34 ∷ 98 ∷ 34 ∷ 44 ∷ 48 ∷ 48 ∷ 55 ∷ 13 ∷ 10 ∷ 44 ∷ 34 ∷ 52 ∷ 50 ∷ 57 ∷ 52 ∷ 57 ∷ 54 ∷ 55 ∷ 50 ∷ 57 ∷ 54 ∷ 34 ∷ [])
     ≡ lists (97 ∷ 34 ∷ 98 ∷ 0 ∷ 0 ∷ []) (7 ∷ 4294967296 ∷ [])
-unfolding reading run fed moved next Reader.unquoted Reader.quoted Reader.closed Reader.number Reader.digits Reader.number_quoted Reader.row_end bare is_digit effect said valued told fresh ended ended_as ending if◌then◌else◌
+unfolding reading run fed moved next Reader.unquoted Reader.quoted Reader.closed Reader.number Reader.digits Reader.number_quoted Reader.row_end bare is_digit effect said valued told fresh ended ended_as ending when◌then◌else◌
 two_rows = refl
 
 -- An empty text is an empty list. A row end alone, a bare LF, a CR at the end, a zero byte in a name, a quote in an unquoted name, a blank
@@ -30,14 +30,14 @@ pub edges :
     × (reading (97 ∷ 44 ∷ 49 ∷ 44 ∷ 49 ∷ []) ≡ nothing)
     × (reading (97 ∷ 44 ∷ []) ≡ nothing)
     × (reading (97 ∷ 44 ∷ 34 ∷ 34 ∷ []) ≡ nothing)
-unfolding reading run fed moved next Reader.unquoted Reader.quoted Reader.closed Reader.number Reader.digits Reader.number_quoted Reader.row_end bare is_digit effect said valued told fresh ended ended_as ending if◌then◌else◌
+unfolding reading run fed moved next Reader.unquoted Reader.quoted Reader.closed Reader.number Reader.digits Reader.number_quoted Reader.row_end bare is_digit effect said valued told fresh ended ended_as ending when◌then◌else◌
 edges = (refl, refl, refl, refl, refl, refl, refl, refl, refl, refl, refl)
 
 -- a"b and 4294967295 are written "a""b",4294967295 CR LF; a blank and 0 are written as they are.
 pub written :
     (row_text (record { name = 97 ∷ 34 ∷ 98 ∷ []; identifier = 4294967295 }) ≡ 34 ∷ 97 ∷ 34 ∷ 34 ∷ 98 ∷ 34 ∷ 44 ∷ 52 ∷ 50 ∷ 57 ∷ 52 ∷ 57 ∷ 54 ∷ 55 ∷ 50 ∷ 57 ∷ 53 ∷ 13 ∷ 10 ∷ [])
     × (row_text (record { name = 32 ∷ []; identifier = 0 }) ≡ 32 ∷ 44 ∷ 48 ∷ 13 ∷ 10 ∷ [])
-unfolding row_text name_text decimal last_digits digit_count doubled bare every if◌then◌else◌
+unfolding row_text name_text decimal last_digits digit_count doubled bare every when◌then◌else◌
 written = (refl, refl)
 
 -- Two rows that can be written: a name of a quote, a comma, CR and LF, and an empty one. The text for them says them again.

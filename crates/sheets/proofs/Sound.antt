@@ -4,10 +4,10 @@ use Rattle.std.proofs.Math.Path.{refl, ap, ap₂, sym, subst}
 use Rattle.std.proofs.Common.{◌∙◌, arith, eqb→eq}
 use Rattle.std.proofs.Math.Logic.{inl, inr}
 use mathlib.Core.List.{List, [], ◌∷◌, ◌++◌, append_assoc, append-nil}
-use Rattle.lists.specs.Basics.{if◌then◌else◌, every}
+use Rattle.lists.specs.Basics.{when◌then◌else◌, every}
 use Rattle.lists.specs.Choice.{choose}
 use Rattle.lists.specs.Tests.{T_true}
-use Rattle.sheets.specs.Grammar.{Row, quote, comma, cr, lf, bare, non_zero, is_digit, doubled, worth, Field, plain, quoted, RowText, row, Sheet, empty, last, more}
+use Rattle.sheets.specs.Grammar.{quote, comma, cr, lf, bare, non_zero, is_digit, doubled, worth, Field, plain, quoted, RowText, row, Sheet, empty, last, more}
 use Rattle.sheets.specs.Reader
 use Rattle.sheets.specs.declared.Place.{Place}
 use Rattle.sheets.specs.declared.Place.TheVariants.{Start, Plain, Opened, Quoted, Closed, Number, Digits, NumberOpened, NumberQuoted, NumberClosed, Return, Wrong}
@@ -168,11 +168,11 @@ module _ (b v : ℕ) (t x y : List ℕ) where
       (λ _ w. absurd w)))
 
   twice : (s : List ℕ) → T (not (nat_eq b quote)) → doubled (b ∷ s) ≡ b ∷ doubled s
-  unfolding doubled if◌then◌else◌
+  unfolding doubled when◌then◌else◌
   twice s e = rw (T_false (nat_eq b quote) e)
 
   ended_name : b ≡ quote → Ended t x y → InQuoted (b ∷ t) x y
-  unfolding doubled if◌then◌else◌ non_zero
+  unfolding doubled when◌then◌else◌ non_zero
   ended_name e (inl m) = record { name = []; behind = m.0; others = m.1; text = ap₂ (λ k l. k ∷ l) e m.2; proper = every_none non_zero; names = m.3; end = m.4 }
   ended_name e (inr m) = record { name = quote ∷ m.4.name; behind = m.4.behind; others = m.4.others; text = ap₂ (λ k l. k ∷ l) e (m.2 ∙ ap (λ l. quote ∷ l) m.4.text); proper = every_more non_zero quote m.4.name refl m.4.proper; names = m.3 ∙ ap (λ l. quote ∷ l) m.4.names; end = m.4.end }
 

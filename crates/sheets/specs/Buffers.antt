@@ -2,7 +2,7 @@
 -- Assumes nothing.
 use Rattle.std.specs.Prelude.{◌≡◌, refl, Bool, true, false, List, [], ◌∷◌, ◌++◌, ℕ, ◌+◌, ◌≤◌, ◌<◌, nat_eq, length}
 use Rattle.std.proofs.Common.{ap, ap₂, sym, ◌∙◌, arith, eqb→eq}
-use Rattle.lists.specs.Basics.{if◌then◌else◌, All, every}
+use Rattle.lists.specs.Basics.{when◌then◌else◌, All, every}
 use Rattle.lists.specs.Tests.{and_left, and_right, and_both, T_true, true_T, →eqb}
 use Rattle.sheets.specs.Grammar.{Row, non_zero}
 use Rattle.sheets.specs.Rows.{names_of, identifiers_of}
@@ -20,11 +20,11 @@ Writable r = Named r × (r.identifier < 4294967296)
 module _ (b : ℕ) (s : List ℕ) where
   -- the first byte ends the name, or is its first
   pub first_zero : nat_eq b 0 ≡ true → (first_name (b ∷ s) ≡ []) × (behind_name (b ∷ s) ≡ s) × (zeros (b ∷ s) ≡ 1 + zeros s)
-  unfolding first_name behind_name zeros if◌then◌else◌
+  unfolding first_name behind_name zeros when◌then◌else◌
   first_zero e = (rw e, rw e, rw e)
 
   pub first_more : nat_eq b 0 ≡ false → (first_name (b ∷ s) ≡ b ∷ first_name s) × (behind_name (b ∷ s) ≡ behind_name s) × (zeros (b ∷ s) ≡ zeros s)
-  unfolding first_name behind_name zeros if◌then◌else◌
+  unfolding first_name behind_name zeros when◌then◌else◌
   first_more e = (rw e, rw e, rw e)
 
 pub split_name : (l : List ℕ) → 1 ≤ zeros l → (l ≡ first_name l ++ (0 ∷ behind_name l)) × (zeros l ≡ 1 + zeros (behind_name l))
@@ -57,7 +57,7 @@ ends_tail b [] e = refl
 ends_tail b (c ∷ s) e = e
 
 ends_behind : (l : List ℕ) → ends_well l ≡ true → ends_well (behind_name l) ≡ true
-unfolding behind_name if◌then◌else◌
+unfolding behind_name when◌then◌else◌
 ends_behind [] e = e
 ends_behind (b ∷ s) e = go (nat_eq b 0) refl (ends_behind s (ends_tail b s e))
   where
@@ -67,7 +67,7 @@ ends_behind (b ∷ s) e = go (nat_eq b 0) refl (ends_behind s (ends_tail b s e))
 
 -- no zero byte, and the end of the last name: nothing at all
 no_names : (l : List ℕ) → zeros l ≡ 0 → ends_well l ≡ true → l ≡ []
-unfolding zeros ends_well if◌then◌else◌
+unfolding zeros ends_well when◌then◌else◌
 no_names [] z e = refl
 no_names (b ∷ []) z e = absurd (let h : 1 + zeros [] ≡ 0 = sym (first_zero b [] e).2 ∙ z in omega arith)
 no_names (b ∷ c ∷ s) z e = go (nat_eq b 0) refl (no_names (c ∷ s))

@@ -1,7 +1,7 @@
 -- Bytes and the tests of them. Assumes nothing.
 use Rattle.std.specs.Prelude.{◌≡◌, refl, Bool, true, false, not, ◌&&◌, List, [], ◌∷◌, ℕ, T, nat_eq}
 use Rattle.std.proofs.Common.{ap, sym, ◌∙◌, eqb→eq}
-use Rattle.lists.specs.Basics.{if◌then◌else◌, every}
+use Rattle.lists.specs.Basics.{when◌then◌else◌, every}
 use Rattle.lists.specs.Tests.{and_left, and_right, T_true, true_T}
 use Rattle.sheets.specs.Grammar.{quote, comma, cr, lf, bare, non_zero, is_digit, doubled}
 
@@ -78,6 +78,6 @@ digits_bare [] e = every_none bare
 digits_bare (b ∷ s) e = every_more bare b s (digit_bare b (every_head is_digit b s e)) (digits_bare s (every_tail is_digit b s e))
 
 pub digits_single : (s : List ℕ) → every is_digit s ≡ true → doubled s ≡ s
-unfolding doubled if◌then◌else◌
+unfolding doubled when◌then◌else◌
 digits_single [] e = refl
 digits_single (b ∷ s) e = rw (digit_quote b (every_head is_digit b s e)) (ap (λ l. b ∷ l) (digits_single s (every_tail is_digit b s e)))

@@ -1,7 +1,7 @@
 -- The office's sheet (document 02, 2026-03): which bytes are one, and which rows they say. The grammar is RFC 4180's, section 2, for two fields
 -- a row and no header. It says what a sheet is, not how to read one: Reader.antt decides it.
 use Rattle.std.specs.Prelude.{◌≡◌, Bool, true, not, ◌&&◌, List, [], ◌∷◌, ◌++◌, ℕ, ◌+◌, ◌-◌, ◌*◌, ◌≤◌, nat_le, nat_eq, length}
-use Rattle.lists.specs.Basics.{if◌then◌else◌, every}
+use Rattle.lists.specs.Basics.{when◌then◌else◌, every}
 
 abbrev pub quote : ℕ
 quote = 34
@@ -27,7 +27,7 @@ bare b = (not (nat_eq b quote) && not (nat_eq b comma)) && (not (nat_eq b cr) &&
 -- Within quotes a quote stands twice.
 unfoldable pub doubled : List ℕ → List ℕ
 doubled [] = []
-doubled (b ∷ s) = if nat_eq b quote then quote ∷ quote ∷ doubled s else b ∷ doubled s
+doubled (b ∷ s) = when nat_eq b quote then quote ∷ quote ∷ doubled s else b ∷ doubled s
 
 -- A field: its text, and the bytes that it says.
 pub data Field : List ℕ → List ℕ → Type 0 where

@@ -1,7 +1,7 @@
 -- The reader: a byte at a time, from place to place. `decides` (proofs/Theorem.antt) says that it reads exactly the sheets of Grammar.antt.
 -- Assumes nothing.
 use Rattle.std.specs.Prelude.{List, [], ◌∷◌, ◌++◌, ℕ, ◌+◌, ◌-◌, ◌*◌, nat_eq}
-use Rattle.lists.specs.Basics.{if◌then◌else◌}
+use Rattle.lists.specs.Basics.{when◌then◌else◌}
 use Rattle.sheets.specs.declared.Place.{Place}
 use Rattle.sheets.specs.declared.Place.TheVariants.{Start, Plain, Opened, Quoted, Closed, Number, Digits, NumberOpened, NumberQuoted, NumberClosed, Return, Wrong}
 use Rattle.sheets.specs.declared.Effect.{Effect}
@@ -12,40 +12,40 @@ use Rattle.sheets.specs.Grammar.{quote, comma, cr, lf, bare, is_digit}
 
 -- In an unquoted name, or before it.
 unfoldable pub unquoted : ℕ → Place
-unquoted b = if nat_eq b comma then Number else if nat_eq b 0 then Wrong else if bare b then Plain else Wrong
+unquoted b = when nat_eq b comma then Number else when nat_eq b 0 then Wrong else when bare b then Plain else Wrong
 
 -- In a quoted name: a quote ends it, or is the first of two.
 unfoldable pub quoted : ℕ → Place
-quoted b = if nat_eq b quote then Closed else if nat_eq b 0 then Wrong else Quoted
+quoted b = when nat_eq b quote then Closed else when nat_eq b 0 then Wrong else Quoted
 
 unfoldable pub closed : ℕ → Place
-closed b = if nat_eq b quote then Quoted else if nat_eq b comma then Number else Wrong
+closed b = when nat_eq b quote then Quoted else when nat_eq b comma then Number else Wrong
 
 unfoldable pub row_end : ℕ → Place
-row_end b = if nat_eq b cr then Return else Wrong
+row_end b = when nat_eq b cr then Return else Wrong
 
 unfoldable pub number : ℕ → Place
-number b = if nat_eq b quote then NumberOpened else if is_digit b then Digits else Wrong
+number b = when nat_eq b quote then NumberOpened else when is_digit b then Digits else Wrong
 
 unfoldable pub digits : ℕ → Place
-digits b = if is_digit b then Digits else row_end b
+digits b = when is_digit b then Digits else row_end b
 
 unfoldable pub number_quoted : ℕ → Place
-number_quoted b = if nat_eq b quote then NumberClosed else if is_digit b then NumberQuoted else Wrong
+number_quoted b = when nat_eq b quote then NumberClosed else when is_digit b then NumberQuoted else Wrong
 
 -- Where a byte leads to.
 unfoldable pub next : Place → ℕ → Place
-next Start b = if nat_eq b quote then Opened else unquoted b
+next Start b = when nat_eq b quote then Opened else unquoted b
 next Plain b = unquoted b
 next Opened b = quoted b
 next Quoted b = quoted b
 next Closed b = closed b
 next Number b = number b
 next Digits b = digits b
-next NumberOpened b = if is_digit b then NumberQuoted else Wrong
+next NumberOpened b = when is_digit b then NumberQuoted else Wrong
 next NumberQuoted b = number_quoted b
 next NumberClosed b = row_end b
-next Return b = if nat_eq b lf then Start else Wrong
+next Return b = when nat_eq b lf then Start else Wrong
 next Wrong b = Wrong
 
 unfoldable pub effect : Place → Effect

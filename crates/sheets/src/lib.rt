@@ -1,6 +1,7 @@
 // The office sheet (document 02, 2026-03): hub names and identifiers as RFC 4180's comma-separated values. What a sheet is, and what reading and
 // writing one gives, is in specs/; here is what both ways share.
 #![tactic(auto)]
+
 ghost use Rattle.std.specs.Prelude.{◌≡◌, [], ◌∷◌, ◌+◌, ◌-◌, ◌≤◌, ◌<◌, min, length};
 ghost use Rattle.lists.specs.Splice.{splice};
 ghost use Rattle.sheets.specs.Grammar.{is_digit, bare as bare_spec};

@@ -1,5 +1,6 @@
 // The step: a command is asked its questions, decides on values, and only then writes (document 01, 'Commands and their messages').
 #![tactic(auto)]
+
 mod apply;
 mod asks;
 mod commands;

@@ -4,7 +4,7 @@ use Rattle.std.proofs.Common.{ap, sym, ◌∙◌, add-one, arith, length-take, l
 use Rattle.std.proofs.Math.Seq.{paste, paste-suc, take-paste, drop-length}
 use Rattle.std.proofs.lemmas.List.Edits.{drop-paste}
 use borrow.Author.Tests.{ne_eqb}
-use Rattle.lists.specs.Basics.{if◌then◌else◌}
+use Rattle.lists.specs.Basics.{when◌then◌else◌}
 use Rattle.protocol.specs.declared.Line.{Line}
 use Rattle.protocol.specs.Frames.{line_call}
 use Rattle.console.specs.Lines.{Gathering, kept, gathered}
@@ -30,10 +30,10 @@ module _ (w l after out out' : List ℕ) (waiting : ℕ) (p : Line)
 
 -- A line is gathered up to its LF and then ends; or the input ends first.
 unfoldable resumed : Standing → Gathering → Standing
-resumed s g = if g.ended then line_ended (record { slice = s.slice; begun = g.part; printed = s.printed }) else record { slice = s.slice; begun = g.part; printed = s.printed }
+resumed s g = when g.ended then line_ended (record { slice = s.slice; begun = g.part; printed = s.printed }) else record { slice = s.slice; begun = g.part; printed = s.printed }
 
 gathered_fed : (s : Standing) (input : List ℕ) → cut (fed s input) ≡ cut (fed (resumed s (gathered 515 s.begun input)) (gathered 515 s.begun input).left)
-unfolding fed byte_fed cut kept gathered resumed if◌then◌else◌
+unfolding fed byte_fed cut kept gathered resumed when◌then◌else◌
 gathered_fed s [] = refl
 gathered_fed s (b ∷ rest) = go (nat_eq b 10) (gathered_fed (record { slice = s.slice; begun = take 515 (s.begun ++ (b ∷ [])); printed = s.printed }) rest)
   where
@@ -41,10 +41,10 @@ gathered_fed s (b ∷ rest) = go (nat_eq b 10) (gathered_fed (record { slice = s
     more = record { slice = s.slice; begun = s.begun ++ (b ∷ []); printed = s.printed }
 
     onward : Bool → Gathering
-    onward t = if t then record { part = s.begun; ended = true; left = rest } else gathered 515 (kept 515 s.begun b) rest
+    onward t = when t then record { part = s.begun; ended = true; left = rest } else gathered 515 (kept 515 s.begun b) rest
 
     go : (t : Bool) → cut (fed (cut more) rest) ≡ cut (fed (resumed (cut more) (onward false)) (onward false).left)
-        → cut (fed (if t then line_ended s else more) rest) ≡ cut (fed (resumed s (onward t)) (onward t).left)
+        → cut (fed (when t then line_ended s else more) rest) ≡ cut (fed (resumed s (onward t)) (onward t).left)
     go true k = refl
     go false k = sym (cut_fed more rest) ∙ k
 
@@ -57,22 +57,22 @@ module _ (w begun printed input part left : List ℕ) (n : ℕ) (e : Bool) (size
 
   pub line_ends : e ≡ true → (after : Standing) → line_ended (record { slice = w; begun = part; printed = printed }) ≡ after
       → cut (fed (record { slice = w; begun = begun; printed = printed }) input) ≡ cut (fed after left)
-  unfolding resumed if◌then◌else◌
+  unfolding resumed when◌then◌else◌
   line_ends t after a = known ∙ rw (t, a)
 
   pub line_goes_on : e ≡ false → cut (fed (record { slice = w; begun = begun; printed = printed }) input) ≡ cut (fed (record { slice = w; begun = part; printed = printed }) left)
-  unfolding resumed if◌then◌else◌
+  unfolding resumed when◌then◌else◌
   line_goes_on t = known ∙ rw t
 
 -- the end of the input
 module _ (w line : List ℕ) (held : ℕ) where
   pub nothing_begun : held ≡ 0 → ended (record { slice = w; begun = take held line; printed = [] }) ≡ record { slice = w; begun = []; printed = [] }
-  unfolding ended if◌then◌else◌
+  unfolding ended when◌then◌else◌
   nothing_begun e = rw e
 
   pub last_line : ¬ (held ≡ 0) → held ≤ length line → (after : Standing) → line_ended (record { slice = w; begun = take held line; printed = [] }) ≡ after
       → ended (record { slice = w; begun = take held line; printed = [] }) ≡ after
-  unfolding ended if◌then◌else◌
+  unfolding ended when◌then◌else◌
   last_line h k after a = rw (length-take-le held line k, ne_eqb held 0 h) a
 
 -- from turn to turn

@@ -2,7 +2,7 @@
 use Rattle.std.specs.Prelude.{◌≡◌, refl, Bool, true, false, ℕ, suc, zero, nat_eq, length, take, replicate}
 use Rattle.std.proofs.Common.{ap, sym, ◌∙◌, arith, ne_eqb, take-take}
 use mathlib.Core.List.{List, [], ◌∷◌, ◌++◌, append_assoc, append-nil, flatten}
-use Rattle.lists.specs.Basics.{if◌then◌else◌}
+use Rattle.lists.specs.Basics.{when◌then◌else◌}
 use Rattle.protocol.specs.Record.{record_size}
 use Rattle.frames.specs.Lines.{enough}
 use Rattle.protocol.specs.Ringrun.{lines_of, answers, ringrun, Standing, line_ended, byte_fed, fed, ended}
@@ -28,15 +28,15 @@ fed_pieces s (b ∷ p) q = fed_pieces (byte_fed s b) p q
 
 -- The end of the input does to a line that has begun what LF does.
 pub last_lf : (s : Standing) (input : List ℕ) → ¬ (length (fed s input).begun ≡ 0) → ended (fed s input) ≡ fed s (input ++ (10 ∷ []))
-unfolding fed byte_fed ended if◌then◌else◌
+unfolding fed byte_fed ended when◌then◌else◌
 last_lf s input h = rw (fed_pieces s input (10 ∷ []), ne_eqb (length (fed s input).begun) 0 h)
 
 -- Fed byte by byte to its end, an input prints what its lines print.
 pub fed_lines : (s : Standing) (input : List ℕ) → (ended (fed s input)).printed ≡ s.printed ++ answers s.slice (lines_of s.begun input)
-unfolding fed ended byte_fed line_ended lines_of answers if◌then◌else◌
+unfolding fed ended byte_fed line_ended lines_of answers when◌then◌else◌
 fed_lines s [] = go (nat_eq (length s.begun) 0)
   where
-    go : (t : Bool) → (if t then s else line_ended s).printed ≡ s.printed ++ answers s.slice (if t then [] else s.begun ∷ [])
+    go : (t : Bool) → (when t then s else line_ended s).printed ≡ s.printed ++ answers s.slice (when t then [] else s.begun ∷ [])
     go true = sym (append-nil s.printed)
     go false = ap (λ z. s.printed ++ z) (sym (append-nil _))
 fed_lines s (b ∷ rest) = fed_lines (byte_fed s b) rest ∙ go (nat_eq b 10)
@@ -45,8 +45,8 @@ fed_lines s (b ∷ rest) = fed_lines (byte_fed s b) rest ∙ go (nat_eq b 10)
     more = record { slice = s.slice; begun = s.begun ++ (b ∷ []); printed = s.printed }
 
     go : (t : Bool)
-        → (if t then line_ended s else more).printed ++ answers (if t then line_ended s else more).slice (lines_of (if t then line_ended s else more).begun rest)
-        ≡ s.printed ++ answers s.slice (if t then s.begun ∷ lines_of [] rest else lines_of (s.begun ++ (b ∷ [])) rest)
+        → (when t then line_ended s else more).printed ++ answers (when t then line_ended s else more).slice (lines_of (when t then line_ended s else more).begun rest)
+        ≡ s.printed ++ answers s.slice (when t then s.begun ∷ lines_of [] rest else lines_of (s.begun ++ (b ∷ [])) rest)
     go true = append_assoc s.printed _ _
     go false = refl
 
@@ -62,12 +62,12 @@ take_more (suc n) [] t = refl
 take_more (suc n) (x ∷ l) t = ap (λ z. x ∷ z) (take_more n l t)
 
 cut_byte : (s : Standing) (b : ℕ) → cut (byte_fed (cut s) b) ≡ cut (byte_fed s b)
-unfolding byte_fed cut if◌then◌else◌
+unfolding byte_fed cut when◌then◌else◌
 cut_byte s b = go (nat_eq b 10)
   where
     go : (t : Bool)
-        → cut (if t then line_ended (cut s) else record { slice = (cut s).slice; begun = (cut s).begun ++ (b ∷ []); printed = (cut s).printed })
-        ≡ cut (if t then line_ended s else record { slice = s.slice; begun = s.begun ++ (b ∷ []); printed = s.printed })
+        → cut (when t then line_ended (cut s) else record { slice = (cut s).slice; begun = (cut s).begun ++ (b ∷ []); printed = (cut s).printed })
+        ≡ cut (when t then line_ended s else record { slice = s.slice; begun = s.begun ++ (b ∷ []); printed = s.printed })
     go true = ap cut (cut_line s)
     go false = ap (λ z. record { slice = s.slice; begun = z; printed = s.printed }) (take_more 515 s.begun (b ∷ []))
 
@@ -83,7 +83,7 @@ some : (l : List ℕ) → nat_eq (suc (length l)) 0 ≡ false
 some l = ne_eqb (suc (length l)) 0 (λ e. omega arith)
 
 pub cut_ended : (s : Standing) → (ended (cut s)).printed ≡ (ended s).printed
-unfolding ended cut if◌then◌else◌
+unfolding ended cut when◌then◌else◌
 cut_ended s = go s.begun
   where
     go : (begun : List ℕ)

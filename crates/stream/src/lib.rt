@@ -1,5 +1,6 @@
 // The bytes of an input to the bytes that are printed for it (document 01, '`ringrun`'), in whatever pieces they arrive.
 #![tactic(auto)]
+
 mod answering;
 mod taking;
 

@@ -1,5 +1,5 @@
 ghost use Rattle.std.specs.Prelude.{◌≡◌, nat_eq};
-ghost use Rattle.lists.specs.Basics.{if◌then◌else◌};
+ghost use Rattle.lists.specs.Basics.{when◌then◌else◌};
 ghost use Rattle.protocol.specs.Answers.{kind_of, raised, count_of, raised_at, counted as counted_spec};
 
 use protocol::{Answer, Outcome, Tally, answer_kinds};
@@ -47,7 +47,7 @@ fn count_of(o: Outcome) -> u32
 
 // The count in place j, which is raised where k is that place.
 fn count_at(k: u32, j: u32, n: u64) -> u64
-    ensures { result ≡ (if nat_eq k j then raised n else n) }
+    ensures { result ≡ (when nat_eq k j then raised n else n) }
 {
     if k == j {
         return raise(n);

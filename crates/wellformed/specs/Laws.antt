@@ -5,7 +5,7 @@ use Rattle.std.proofs.Common.{◌∙◌, subst, arith, eqb→eq, length-drop, ta
 use Rattle.std.specs.Int.Bits.{bit_or}
 use Rattle.std.proofs.Common.{nat_eq}
 use Rattle.std.proofs.Math.Seq.{take-length}
-use Rattle.lists.specs.Basics.{if◌then◌else◌, every, distinct, table}
+use Rattle.lists.specs.Basics.{when◌then◌else◌, every, distinct, table}
 use Rattle.lists.specs.Tests.{and_true, and_false, true_T, says_same, says_so, says_as, says_and, says_eq, says_le}
 use Rattle.lists.specs.Blocks.{table_cong, map_table}
 use Rattle.lists.specs.Merge.{merged, or_test, every_append, merged_test, merged_zero, merged_zeros, failure_test, when_test}
@@ -65,7 +65,7 @@ module _ (w : List ℕ) (n m : ℕ) (en : n ≡ count_in w) (em : m ≡ messages
   unused_law hn hm a b p q = or_test a b ∙ ap₂ (λ x y. x && y) (p ∙ ap (every (λ x. nat_eq x 0)) (rows_part hn)) (q ∙ ap (every (λ x. nat_eq x 0)) (messages_part hm))
 
 -- One message: its ends, and its fields by kind.
-pub ends_law : (p q r : Bool) (a b c : ℕ) → a ≡ (if p then 0 else 1) → b ≡ (if q then 0 else 1) → c ≡ (if r then 0 else 1) → nat_eq (bit_or (bit_or a b) c) 0 ≡ ((p && q) && r)
+pub ends_law : (p q r : Bool) (a b c : ℕ) → a ≡ (when p then 0 else 1) → b ≡ (when q then 0 else 1) → c ≡ (when r then 0 else 1) → nat_eq (bit_or (bit_or a b) c) 0 ≡ ((p && q) && r)
 ends_law p q r a b c ea eb ec =
     or_test (bit_or a b) c
     ∙ ap₂ (λ x y. x && y) (or_test a b ∙ ap₂ (λ x y. x && y) (ap (λ z. nat_eq z 0) ea ∙ failure_test p) (ap (λ z. nat_eq z 0) eb ∙ failure_test q))
@@ -76,8 +76,8 @@ hops_law h = says_same (says_eq (h / 65536) 0) (says_as (says_le h 65535) (λ l.
 
 -- the tests of a, b and hops, in another order: l for LOOKUP, which names no node
 by_kind : (l nm p h q b z a : Bool) → (T l → T (not nm))
-    → (((not l || (p && h)) && (not nm || q)) && (not (not l) || ((b && z) && (not (not nm) || a)))) ≡ (((l || (if nm then q else a)) && (if l then p else b)) && (if l then h else z))
-unfolding if◌then◌else◌
+    → (((not l || (p && h)) && (not nm || q)) && (not (not l) || ((b && z) && (not (not nm) || a)))) ≡ (((l || (when nm then q else a)) && (when l then p else b)) && (when l then h else z))
+unfolding when◌then◌else◌
 by_kind true true p h q b z a f = absurd (f tt)
 by_kind true false p h q b z a f =
     says_same (says_and (says_and (says_and (says_so p) (says_so h)) (says_so true)) (says_so true)) (says_as (says_and (says_so p) (says_so h)) (λ k. ((k, tt), tt)) (λ k. k.0.0))
@@ -93,11 +93,11 @@ unfolding names_node
 lookup_names_none k t = subst (λ x. T (not (names_node x))) (sym (eqb→eq k LOOKUP t)) tt
 
 pub fields_law : (n asked : ℕ) (m : Message) (below less mine lookup named others : ℕ)
-    → below ≡ (if nat_lt m.b asked then 0 else 1) → less ≡ (if nat_lt m.a n then 0 else 1)
-    → mine ≡ (if not (names_node m.kind) then m.a else 0)
-    → lookup ≡ (if nat_eq m.kind LOOKUP then bit_or below (m.hops / 65536) else 0)
-    → named ≡ (if names_node m.kind then less else 0)
-    → others ≡ (if not (nat_eq m.kind LOOKUP) then bit_or (bit_or m.b m.hops) mine else 0)
+    → below ≡ (when nat_lt m.b asked then 0 else 1) → less ≡ (when nat_lt m.a n then 0 else 1)
+    → mine ≡ (when not (names_node m.kind) then m.a else 0)
+    → lookup ≡ (when nat_eq m.kind LOOKUP then bit_or below (m.hops / 65536) else 0)
+    → named ≡ (when names_node m.kind then less else 0)
+    → others ≡ (when not (nat_eq m.kind LOOKUP) then bit_or (bit_or m.b m.hops) mine else 0)
     → nat_eq (bit_or (bit_or lookup named) others) 0 ≡ (a_ok n m && b_ok asked m && hops_ok m)
 unfolding a_ok b_ok hops_ok
 fields_law n asked m below less mine lookup named others eb el em e1 e2 e3 =
@@ -136,7 +136,7 @@ nodes_ok s = distinct (identifiers s) && every (row_ok (count s)) s.rows
 
 pub nodes_law : (w : List ℕ) (n : ℕ) → n ≡ count_in w → (ids : List ℕ) → ((i : ℕ) → i < n → get_or ids i 0 ≡ get_or w (row_start i) 0) → (d r : ℕ)
     → nat_eq d 0 ≡ distinct (table n (λ i. get_or ids i 0))
-    → r ≡ merged n (λ i. if row_ok n (row_from w (row_start i)) then 0 else 1)
+    → r ≡ merged n (λ i. when row_ok n (row_from w (row_start i)) then 0 else 1)
     → nat_eq (bit_or d r) 0 ≡ nodes_ok (read w)
 unfolding nodes_ok read
 nodes_law w n en ids e d r ed er =

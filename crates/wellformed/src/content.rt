@@ -1,6 +1,6 @@
 ghost use Rattle.std.specs.Prelude.{◌≡◌, ℕ, ◌≤◌, ◌<◌, nat_eq, length, get_or};
 ghost use Rattle.std.specs.Int.Bits.{bit_or};
-ghost use Rattle.lists.specs.Basics.{if◌then◌else◌, every, table};
+ghost use Rattle.lists.specs.Basics.{when◌then◌else◌, every, table};
 ghost use Rattle.lists.specs.Merge.{merged};
 ghost use Rattle.protocol.specs.Record.{most_nodes, most_messages, row_start, message_start, record_size, count_in, messages_in, row_from, message_from, read};
 ghost use Rattle.protocol.specs.WellFormed.{row_ok, message_ok, header_ok, unused_ok, well_formed};
@@ -64,7 +64,7 @@ pub fn bad_zeros(part: &[u32]) -> u32
 // then reads every word of a row, which the compiler does in blocks without a rest.
 fn bad_rows(w: &[u32], n: u32, ids: &mut [u32]) -> u32
     requires { (n ≤ most_nodes) × (record_size ≤ length w.now) × (most_nodes ≤ length ids.old) }
-    ensures { (result ≡ merged n (λ i. if row_ok n (row_from w.now (row_start i)) then 0 else 1)) × ((i : ℕ) → i < n → get_or ids.new i 0 ≡ get_or w.now (row_start i) 0) }
+    ensures { (result ≡ merged n (λ i. when row_ok n (row_from w.now (row_start i)) then 0 else 1)) × ((i : ℕ) → i < n → get_or ids.new i 0 ≡ get_or w.now (row_start i) 0) }
 {
     let end = n as usize;
     let mut bad: u32 = 0;

@@ -4,7 +4,7 @@ use Rattle.std.proofs.Math.Path.{refl, ap}
 use Rattle.std.proofs.Common.{sym, ◌∙◌, append_assoc, append-nil, arith, length-append, drop_of_length-le, take_at}
 use Rattle.std.proofs.Math.ListN.{get_or-append}
 use Rattle.std.proofs.lemmas.List.{drop-append-le}
-use Rattle.lists.specs.Basics.{if◌then◌else◌, require, distinct}
+use Rattle.lists.specs.Basics.{when◌then◌else◌, require, distinct}
 use Rattle.lists.specs.Choice.{on_yes}
 use Rattle.lists.specs.Tests.{says_same, T_true, true_T}
 use Rattle.protocol.specs.Names.{NO_HOLDER}
@@ -98,7 +98,7 @@ module _ (a t : List ℕ) (e : length a ≡ record_size) where
 
 -- a question asked of two calls
 same_question : {A X : Type 0} (f : A → X) (b : Bool) (x y x' y' : A) → f x ≡ f x' → f y ≡ f y' → f (require b x y) ≡ f (require b x' y')
-unfolding require if◌then◌else◌
+unfolding require when◌then◌else◌
 same_question f true x y x' y' p q = q
 same_question f false x y x' y' p q = p
 

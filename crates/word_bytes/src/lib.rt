@@ -1,5 +1,6 @@
 // Words out of bytes, and into bytes, for the calls from C. The loops have no way out but their end, so that the compiler can take many words at a time.
 #![tactic(auto)]
+
 ghost use Rattle.std.specs.Prelude.{◌≡◌, ◌+◌, ◌*◌, ◌≤◌, ◌<◌, length, take};
 ghost use Rattle.std.proofs.lemmas.List.Edits.{sets};
 ghost use Rattle.protocol.specs.Record.{record_size};

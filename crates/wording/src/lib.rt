@@ -1,6 +1,7 @@
 // What the ring says, in words: answers, refusals, rows, rolls, messages and counts as text (docs/INSPECT.md). Every function puts its text
 // behind the first `at` bytes of a block, and answers how many there are then. The text is tested beside the model's, and not proved.
 #![tactic(auto)]
+
 mod names;
 mod show;
 mod text;

@@ -1,7 +1,5 @@
 -- `answer_words` gives the five words of an answer. Assumes nothing.
 use Rattle.protocol.specs.Answers.{answer_words}
-use borrow.Author.Rules.{rules}
-use Rattle.answers.proofs.answer_words.Lts as lts
 use Rattle.answers.proofs.answer_words.Goals as goal
 
 pub returns-in-Quiet : goal.returns-in-Quiet

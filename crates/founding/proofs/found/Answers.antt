@@ -2,23 +2,22 @@
 use mathlib.Core.Path.{sym, ◌∙◌}
 use native.Mathlib.Omega.{arith}
 use lib.ListN.{length}
-use borrow.Author.Tests.{eq-eqb, ne_eqb, lt-leb, le-leb, lt-ltb, le-ltb, not-true, not-false}
-use Rattle.lists.specs.Basics.{if◌then◌else◌, require}
+use borrow.Author.Tests.{eq-eqb, ne_eqb, lt-leb, le-leb, lt-ltb, le-ltb}
+use Rattle.lists.specs.Basics.{when◌then◌else◌, require}
 use Rattle.protocol.specs.Calls.{long, written, fresh_by_call}
 use Rattle.founding.specs.Laws.{differ, some_few}
-use borrow.Author.Rules.{rules}
 use Rattle.founding.proofs.found.Goals as goal
 
 pub returns-then-w-lt-RECORD_WORDS : goal.returns-then-w-lt-RECORD_WORDS
-unfolding fresh_by_call long require if◌then◌else◌
+unfolding fresh_by_call long require when◌then◌else◌
 returns-then-w-lt-RECORD_WORDS c = simp (lt-leb _ _ c.if-w-lt-RECORD_WORDS.true)
 
 pub returns-then-not-both : goal.returns-then-not-both
-unfolding fresh_by_call long require if◌then◌else◌
+unfolding fresh_by_call long require when◌then◌else◌
 returns-then-not-both c = simp (le-leb _ _ c.if-w-lt-RECORD_WORDS.false, ← c.both.ensures, c.if-not-both.true)
 
 pub returns-then-repeated-ne0 : goal.returns-then-repeated-ne0
-unfolding fresh_by_call long require if◌then◌else◌
+unfolding fresh_by_call long require when◌then◌else◌
 returns-then-repeated-ne0 c =
     simp (
       le-leb _ _ c.if-w-lt-RECORD_WORDS.false,
@@ -29,7 +28,7 @@ returns-then-repeated-ne0 c =
     )
 
 pub returns-then-identifiers-node : goal.returns-then-identifiers-node
-unfolding fresh_by_call long require if◌then◌else◌
+unfolding fresh_by_call long require when◌then◌else◌
 returns-then-identifiers-node c =
     simp (
       le-leb _ _ c.if-w-lt-RECORD_WORDS.false,
@@ -47,7 +46,7 @@ write_fresh-requires c =
     (c.if-identifiers-node.false, k.1, omega arith)
 
 pub returns : goal.returns
-unfolding fresh_by_call long written require if◌then◌else◌
+unfolding fresh_by_call long written require when◌then◌else◌
 returns c =
     simp (
       le-leb _ _ c.if-w-lt-RECORD_WORDS.false,

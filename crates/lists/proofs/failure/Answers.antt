@@ -1,12 +1,12 @@
 -- `failure`: the negated test as a number, in both cases. Assumes nothing.
 use borrow.Author.Rules.{rules}
-use Rattle.lists.specs.Basics.{if◌then◌else◌}
+use Rattle.lists.specs.Basics.{when◌then◌else◌}
 use Rattle.lists.proofs.failure.Goals as goal
 
 pub returns-then-test : goal.returns-then-test
-unfolding if◌then◌else◌
+unfolding when◌then◌else◌
 returns-then-test c = search rules
 
 pub returns : goal.returns
-unfolding if◌then◌else◌
+unfolding when◌then◌else◌
 returns c = search rules

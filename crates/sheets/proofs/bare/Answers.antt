@@ -1,5 +1,4 @@
 use Rattle.sheets.specs.Grammar.{bare}
-use borrow.Author.Rules.{rules}
 use Rattle.sheets.proofs.bare.Goals as goal
 
 pub returns : goal.returns

@@ -1,6 +1,5 @@
 -- `is_digit`. Assumes nothing.
 use Rattle.sheets.specs.Grammar.{is_digit}
-use borrow.Author.Rules.{rules}
 use Rattle.sheets.proofs.is_digit.Goals as goal
 
 pub returns : goal.returns

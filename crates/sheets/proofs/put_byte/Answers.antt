@@ -2,7 +2,6 @@
 use mathlib.Core.Path.{refl}
 use native.Mathlib.Omega.{arith}
 use Rattle.sheets.specs.Laying.{splice_one}
-use borrow.Author.Rules.{rules}
 use Rattle.sheets.proofs.put_byte.Goals as goal
 
 pub returns : goal.returns

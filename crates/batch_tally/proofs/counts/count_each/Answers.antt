@@ -2,7 +2,7 @@
 use borrow.Author.Rules.{rules}
 use native.Mathlib.Omega.{arith}
 use mathlib.Core.Path.{◌≡◌, ap, ◌∙◌}
-use Prim.Native.Nat.{◌≤◌, ◌-◌, ◌*◌}
+use Prim.Native.Nat.{◌*◌}
 use Rattle.protocol.specs.Answers.{raised_at}
 use Rattle.protocol.specs.Batch.{place_size}
 use Rattle.batch_tally.specs.Places.{count_at, counted_places, counted_none, counted_next}

@@ -2,7 +2,6 @@
 use mathlib.Core.Path.{ap, ◌∙◌}
 use native.Mathlib.Omega.{arith}
 use Rattle.batch_tally.specs.Places.{counted_places, call_counts}
-use borrow.Author.Rules.{rules}
 use Rattle.batch_tally.proofs.lending.ask_tallied.Goals as goal
 
 pub count_each-tally-requires : goal.count_each-tally-requires

@@ -1,12 +1,8 @@
 -- `ask_each`: what is left is asked; record and output are those that the numbers before it leave. Assumes nothing.
-use borrow.Author.Rules.{rules}
-use native.Mathlib.Omega.{arith}
-use mathlib.Core.Path.{◌≡◌, sym, ap, subst, ◌∙◌}
-use Prim.Native.Nat.{ℕ, ◌+◌, ◌-◌, ◌≤◌, ◌<◌}
-use lib.ListN.{length, take}
-use Rattle.protocol.specs.Batch.{ask_each}
-use Rattle.layout.specs.Form.{Valid}
-use Rattle.batches.specs.Each.{each_valid, placed, up_to, all_written, next_slice, next_output}
+use mathlib.Core.Path.{◌≡◌}
+use Prim.Native.Nat.{◌-◌, ◌≤◌}
+use lib.ListN.{length}
+use Rattle.batches.specs.Each.{placed, up_to}
 use Rattle.batches.proofs.asks.ask_each.Given as goal
 
 abbrev pub invariant-loop-left : goal.invariant-loop-left

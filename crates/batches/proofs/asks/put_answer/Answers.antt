@@ -5,7 +5,6 @@ use native.Mathlib.Omega.{arith}
 use lib.ListN.{length-set}
 use lib.Seq.{sets}
 use Rattle.batches.specs.Each.{word_by_word}
-use borrow.Author.Rules.{rules}
 use Rattle.batches.proofs.asks.put_answer.Goals as goal
 
 pub bounds-place-1 : goal.bounds-place-1

@@ -1,11 +1,9 @@
 -- `ask`: the questions of the call in order; the rest is `ask_each` on a valid record. Assumes nothing.
 use mathlib.Core.Path.{sym, ◌∙◌}
 use native.Mathlib.Omega.{arith}
-use borrow.Author.Tests.{not-true, not-false}
 use Rattle.protocol.specs.Batch.{ask_each, unasked, batch_written, batch_call}
 use Rattle.layout.specs.Form.{valid}
 use Rattle.batches.specs.Each.{batch_1, batch_2, batch_25, batch_26, batch_rest}
-use borrow.Author.Rules.{rules}
 use Rattle.batches.proofs.perform.ask.Goals as goal
 
 pub returns-then-w-lt-RECORD_WORDS : goal.returns-then-w-lt-RECORD_WORDS

@@ -2,14 +2,14 @@
 use borrow.Author.Rules.{rules}
 use mathlib.Core.Path.{◌≡◌, refl, sym, ◌∙◌, ap}
 use mathlib.Core.Bool.{true, ◌&&◌}
-use Prim.Native.Nat.{ℕ, ◌+◌, ◌≤◌, ◌-◌}
+use Prim.Native.Nat.{ℕ, ◌+◌}
 use native.Mathlib.Omega.{arith}
-use lib.ListN.{length, get_or, length-set}
+use lib.ListN.{get_or, length-set}
 use Rattle.lists.specs.Basics.{distinct, table}
 use Rattle.lists.specs.Tests.{and_false}
 use Rattle.lists.specs.Merge.{distinct_none}
 use Rattle.protocol.specs.Cards.{card_start}
-use Rattle.card_checks.specs.Buckets.{unmet, distinct_more, distinct_fails, Filed, filed_none, filed_start, filed_more}
+use Rattle.card_checks.specs.Buckets.{unmet, distinct_more, distinct_fails, filed_none, filed_start, filed_more}
 use Rattle.card_checks.proofs.buckets.all_apart.Goals as goal
 
 pub loop-i-init : goal.loop-i-init

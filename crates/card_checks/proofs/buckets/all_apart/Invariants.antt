@@ -1,15 +1,11 @@
 -- `all_apart`: the first i cards are in their buckets, and their machines differ. Assumes nothing.
-use borrow.Author.Rules.{rules}
-use mathlib.Core.Path.{◌≡◌, refl, sym, ◌∙◌, ap}
-use mathlib.Core.Bool.{true, ◌&&◌}
-use Prim.Native.Nat.{ℕ, ◌+◌, ◌≤◌, ◌-◌}
-use native.Mathlib.Omega.{arith}
-use lib.ListN.{length, get_or, length-set}
+use mathlib.Core.Path.{◌≡◌}
+use mathlib.Core.Bool.{true}
+use Prim.Native.Nat.{◌≤◌, ◌-◌}
+use lib.ListN.{length, get_or}
 use Rattle.lists.specs.Basics.{distinct, table}
-use Rattle.lists.specs.Tests.{and_false}
-use Rattle.lists.specs.Merge.{distinct_none}
 use Rattle.protocol.specs.Cards.{card_start}
-use Rattle.card_checks.specs.Buckets.{unmet, distinct_more, distinct_fails, Filed, filed_none, filed_start, filed_more}
+use Rattle.card_checks.specs.Buckets.{Filed}
 use Rattle.card_checks.proofs.buckets.all_apart.Given as goal
 
 abbrev pub invariant-loop-i : goal.invariant-loop-i

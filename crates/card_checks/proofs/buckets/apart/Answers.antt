@@ -1,10 +1,9 @@
 -- `apart`: a walk back along a bucket, until it ends, meets the machine, or is given up. Assumes nothing.
-use borrow.Author.Rules.{rules}
-use Prim.Native.Nat.{ℕ, ◌≤◌, ◌-◌}
+use Prim.Native.Nat.{ℕ, ◌-◌}
 use native.Mathlib.Omega.{arith}
 use lib.ListN.{get_or}
 use Rattle.protocol.specs.Cards.{card_start}
-use Rattle.card_checks.specs.Buckets.{bucket_of, chain, Walk, walk_start, walk_low, walk_on, walk_ends, walk_meets}
+use Rattle.card_checks.specs.Buckets.{bucket_of, chain, walk_start, walk_low, walk_on, walk_ends, walk_meets}
 use Rattle.card_checks.proofs.buckets.apart.Goals as goal
 
 pub loop-p-init : goal.loop-p-init

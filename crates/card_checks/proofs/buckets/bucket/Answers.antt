@@ -2,7 +2,6 @@
 use mathlib.Core.Path.{ap, subst, sym}
 use Prim.Native.Nat.{◌*◌, ◌/◌, ◌%◌, ◌<◌}
 use Rattle.card_checks.specs.Buckets.{buckets, bucket_of, bucket_below}
-use borrow.Author.Rules.{rules}
 use Rattle.card_checks.proofs.buckets.bucket.Goals as goal
 
 pub returns : goal.returns

@@ -5,7 +5,6 @@ use Rattle.protocol.specs.Cards.{marks_in}
 use Rattle.cardlayout.specs.Sound.{MarksForm}
 use Rattle.card_checks.specs.Marks.{marks_size}
 use Rattle.card_checks.specs.Homes.{homes_law}
-use borrow.Author.Rules.{rules}
 use Rattle.card_checks.proofs.content.bad_homes.Goals as goal
 
 pub returns : goal.returns

@@ -2,7 +2,7 @@
 use mathlib.Core.Path.{◌≡◌, refl, sym, ◌∙◌, ap}
 use native.Mathlib.Omega.{arith}
 use Rattle.std.specs.Prelude.{nat_eq}
-use borrow.Author.Tests.{eq-eqb, ne_eqb, not-true, not-false}
+use borrow.Author.Tests.{eq-eqb, ne_eqb}
 use Rattle.lists.specs.Basics.{every}
 use mathlib.Core.Bool.{true}
 use Rattle.protocol.specs.Record.{read, count_in}
@@ -11,7 +11,6 @@ use Rattle.protocol.specs.Cards.{marks_in, marks_ok, cards_in}
 use Rattle.layout.specs.Form.{valid_form}
 use Rattle.card_checks.specs.Homes.{names_of, ids_size}
 use Rattle.card_checks.specs.Content.{machines_law, unused_law, book_many, book_marks, book_unused, book_machines, book_homes, marks_form}
-use borrow.Author.Rules.{rules}
 use Rattle.card_checks.proofs.content.book_ok.Goals as goal
 
 pub returns-then-m-gt-MOST_CARDS : goal.returns-then-m-gt-MOST_CARDS

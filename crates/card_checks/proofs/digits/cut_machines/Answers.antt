@@ -1,9 +1,9 @@
 -- `cut_machines`: the first j are cut. Assumes nothing.
 use borrow.Author.Rules.{rules}
-use mathlib.Core.Path.{◌≡◌, refl}
-use Prim.Native.Nat.{ℕ, ◌/◌, ◌%◌, ◌-◌, ◌≤◌, ◌<◌}
+use mathlib.Core.Path.{refl}
+use Prim.Native.Nat.{ℕ, ◌/◌, ◌%◌}
 use native.Mathlib.Omega.{arith}
-use lib.ListN.{length, get_or, length-set}
+use lib.ListN.{get_or, length-set}
 use Rattle.lists.specs.Members.{filled}
 use Rattle.protocol.specs.Cards.{card_start}
 use Rattle.card_checks.proofs.digits.cut_machines.Goals as goal

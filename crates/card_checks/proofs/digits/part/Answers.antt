@@ -1,9 +1,9 @@
 -- `part`: after i cards, each has its group, and each slot its first card. Assumes nothing.
 use borrow.Author.Rules.{rules}
-use mathlib.Core.Path.{◌≡◌, refl, sym, subst}
-use Prim.Native.Nat.{◌+◌, ◌*◌, ◌/◌, ◌%◌, ◌≤◌, ◌-◌}
+use mathlib.Core.Path.{refl, sym, subst}
+use Prim.Native.Nat.{◌+◌, ◌*◌, ◌/◌, ◌%◌}
 use native.Mathlib.Omega.{arith}
-use lib.ListN.{length, get_or, set, length-set}
+use lib.ListN.{get_or, set, length-set}
 use Rattle.card_checks.specs.Digits.{Parting, parting_none, parting_more, parting_all, slot_below}
 use Rattle.card_checks.proofs.digits.part.Goals as goal
 

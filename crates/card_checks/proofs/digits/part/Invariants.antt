@@ -1,10 +1,8 @@
 -- `part`: after i cards, each has its group, and each slot its first card. Assumes nothing.
-use borrow.Author.Rules.{rules}
-use mathlib.Core.Path.{◌≡◌, refl, sym, subst}
-use Prim.Native.Nat.{◌+◌, ◌*◌, ◌/◌, ◌%◌, ◌≤◌, ◌-◌}
-use native.Mathlib.Omega.{arith}
-use lib.ListN.{length, get_or, set, length-set}
-use Rattle.card_checks.specs.Digits.{Parting, parting_none, parting_more, parting_all, slot_below}
+use mathlib.Core.Path.{◌≡◌}
+use Prim.Native.Nat.{◌≤◌, ◌-◌}
+use lib.ListN.{length}
+use Rattle.card_checks.specs.Digits.{Parting}
 use Rattle.card_checks.proofs.digits.part.Given as goal
 
 abbrev pub invariant-loop-i : goal.invariant-loop-i

@@ -1,11 +1,9 @@
 -- `part_all`: between the passes two cards of one group have the same digits so far, and some card does not lead its group. Assumes nothing.
 use borrow.Author.Rules.{rules}
 use mathlib.Core.Path.{◌≡◌, refl, sym, ◌∙◌, subst}
-use mathlib.Core.Logic.{◌≢◌}
-use Prim.Native.Nat.{ℕ, suc, ◌-◌, ◌≤◌, ◌<◌}
+use Prim.Native.Nat.{suc, ◌-◌}
 use native.Mathlib.Omega.{arith}
-use lib.ListN.{length, get_or}
-use Rattle.card_checks.specs.Digits.{Grouped, Led, following, parted_led, led_few, grouped_next, grouped_yes, grouped_no}
+use Rattle.card_checks.specs.Digits.{Grouped, parted_led, led_few, grouped_next, grouped_yes, grouped_no}
 use Rattle.card_checks.proofs.digits.part_all.Goals as goal
 
 pub loop-left-init : goal.loop-left-init

@@ -1,11 +1,9 @@
 -- `part_all`: between the passes two cards of one group have the same digits so far, and some card does not lead its group. Assumes nothing.
-use borrow.Author.Rules.{rules}
-use mathlib.Core.Path.{◌≡◌, refl, sym, ◌∙◌, subst}
+use mathlib.Core.Path.{◌≡◌}
 use mathlib.Core.Logic.{◌≢◌}
-use Prim.Native.Nat.{ℕ, suc, ◌-◌, ◌≤◌, ◌<◌}
-use native.Mathlib.Omega.{arith}
+use Prim.Native.Nat.{ℕ, ◌≤◌, ◌<◌}
 use lib.ListN.{length, get_or}
-use Rattle.card_checks.specs.Digits.{Grouped, Led, following, parted_led, led_few, grouped_next, grouped_yes, grouped_no}
+use Rattle.card_checks.specs.Digits.{Grouped, Led, following}
 use Rattle.card_checks.proofs.digits.part_all.Given as goal
 
 abbrev pub invariant-loop-left : goal.invariant-loop-left

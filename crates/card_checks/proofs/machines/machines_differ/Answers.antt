@@ -1,6 +1,5 @@
 -- `machines_differ`: the buckets say, or the digits do. Assumes nothing.
 use mathlib.Core.Path.{sym}
-use borrow.Author.Rules.{rules}
 use Rattle.card_checks.proofs.machines.machines_differ.Goals as goal
 
 pub returns-then-verdict-eq0 : goal.returns-then-verdict-eq0

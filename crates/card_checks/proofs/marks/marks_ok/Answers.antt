@@ -3,7 +3,6 @@ use mathlib.Core.Path.{◌∙◌, ap}
 use mathlib.Core.Bool.{◌&&◌}
 use Rattle.std.specs.Prelude.{nat_eq}
 use Rattle.card_checks.specs.Marks.{marks_code}
-use borrow.Author.Rules.{rules}
 use Rattle.card_checks.proofs.marks.marks_ok.Goals as goal
 
 pub returns : goal.returns

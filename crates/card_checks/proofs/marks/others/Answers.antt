@@ -2,11 +2,10 @@
 use borrow.Author.Rules.{rules}
 use mathlib.Core.Path.{◌≡◌, sym, ◌∙◌, ap}
 use mathlib.Core.Bool.{not}
-use Prim.Native.Nat.{◌≤◌, ◌-◌}
 use native.Mathlib.Omega.{arith}
 use Rattle.std.specs.Prelude.{nat_eq}
 use lib.ListN.{length, get_or}
-use Rattle.lists.specs.Basics.{if◌then◌else◌}
+use Rattle.lists.specs.Basics.{when◌then◌else◌}
 use Rattle.lists.specs.Merge.{merged, merged_none, merged_more}
 use Rattle.card_checks.proofs.marks.others.Goals as goal
 
@@ -19,4 +18,4 @@ loop-i-preserved c = let l = c.loop-i in (search rules, rw (merged_more, ← l.i
 pub returns : goal.returns
 returns c = let a = c.args in
     let e : c.loop-i.i ≡ length a.marks.now = omega arith in
-    c.loop-i.invariant.1 ∙ ap (λ k. merged k (λ i. if not (nat_eq i a.h) then get_or a.marks.now i 0 else 0)) e
+    c.loop-i.invariant.1 ∙ ap (λ k. merged k (λ i. when not (nat_eq i a.h) then get_or a.marks.now i 0 else 0)) e

@@ -1,17 +1,15 @@
 -- `others`: the marks of the other nodes, merged. Assumes nothing.
-use borrow.Author.Rules.{rules}
-use mathlib.Core.Path.{◌≡◌, sym, ◌∙◌, ap}
+use mathlib.Core.Path.{◌≡◌}
 use mathlib.Core.Bool.{not}
 use Prim.Native.Nat.{◌≤◌, ◌-◌}
-use native.Mathlib.Omega.{arith}
 use Rattle.std.specs.Prelude.{nat_eq}
 use lib.ListN.{length, get_or}
-use Rattle.lists.specs.Basics.{if◌then◌else◌}
-use Rattle.lists.specs.Merge.{merged, merged_none, merged_more}
+use Rattle.lists.specs.Basics.{when◌then◌else◌}
+use Rattle.lists.specs.Merge.{merged}
 use Rattle.card_checks.proofs.marks.others.Given as goal
 
 abbrev pub invariant-loop-i : goal.invariant-loop-i
-invariant-loop-i l = (l.i ≤ length l.marks) × (l.all ≡ merged l.i (λ i'. if not (nat_eq i' l.h) then get_or l.marks i' 0 else 0))
+invariant-loop-i l = (l.i ≤ length l.marks) × (l.all ≡ merged l.i (λ i'. when not (nat_eq i' l.h) then get_or l.marks i' 0 else 0))
 
 abbrev pub decreases-loop-i : goal.decreases-loop-i
 decreases-loop-i l = length l.marks - l.i

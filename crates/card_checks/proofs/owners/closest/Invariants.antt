@@ -1,13 +1,9 @@
 -- `closest`: the least of the distances so far. Assumes nothing.
-use borrow.Author.Rules.{rules}
-use mathlib.Core.Path.{◌≡◌, sym, ◌∙◌, ap}
+use mathlib.Core.Path.{◌≡◌}
 use Prim.Native.Nat.{◌≤◌, ◌-◌}
-use native.Mathlib.Omega.{arith}
-use Rattle.std.specs.Prelude.{nat_le, nat_eq}
-use lib.ListN.{length, get_or}
-use Rattle.lists.specs.Basics.{if◌then◌else◌}
-use Rattle.cardlayout.specs.Reach.{top, least, least_none, least_more}
-use Rattle.card_checks.specs.Homes.{far_to, closest}
+use lib.ListN.{length}
+use Rattle.cardlayout.specs.Reach.{least}
+use Rattle.card_checks.specs.Homes.{far_to}
 use Rattle.card_checks.proofs.owners.closest.Given as goal
 
 abbrev pub invariant-loop-m : goal.invariant-loop-m

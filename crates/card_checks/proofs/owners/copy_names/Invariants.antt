@@ -1,11 +1,7 @@
 -- `copy_names`: the first i are copied, the others as they were. Assumes nothing.
-use borrow.Author.Rules.{rules}
-use mathlib.Core.Path.{◌≡◌, refl, ◌∙◌}
+use mathlib.Core.Path.{◌≡◌}
 use Prim.Native.Nat.{ℕ, ◌≤◌, ◌<◌, ◌-◌}
-use native.Mathlib.Omega.{arith}
-use lib.ListN.{length, get_or, length-set}
-use lib.Seq.{get_or-set_other}
-use Rattle.lists.specs.Members.{filled}
+use lib.ListN.{length, get_or}
 use Rattle.protocol.specs.Record.{row_start}
 use Rattle.card_checks.proofs.owners.copy_names.Given as goal
 

@@ -1,9 +1,8 @@
 -- `fill_reaches`: the table is right below h. Assumes nothing.
 use borrow.Author.Rules.{rules}
-use mathlib.Core.Path.{◌≡◌, refl}
-use Prim.Native.Nat.{ℕ, ◌≤◌, ◌<◌, ◌-◌}
+use mathlib.Core.Path.{refl}
 use native.Mathlib.Omega.{arith}
-use lib.ListN.{length, get_or, length-set}
+use lib.ListN.{length-set}
 use Rattle.lists.specs.Members.{filled}
 use Rattle.cardlayout.specs.Reach.{reach}
 use Rattle.card_checks.proofs.owners.fill_reaches.Goals as goal

@@ -1,10 +1,7 @@
 -- `fill_reaches`: the table is right below h. Assumes nothing.
-use borrow.Author.Rules.{rules}
-use mathlib.Core.Path.{◌≡◌, refl}
+use mathlib.Core.Path.{◌≡◌}
 use Prim.Native.Nat.{ℕ, ◌≤◌, ◌<◌, ◌-◌}
-use native.Mathlib.Omega.{arith}
-use lib.ListN.{length, get_or, length-set}
-use Rattle.lists.specs.Members.{filled}
+use lib.ListN.{length, get_or}
 use Rattle.cardlayout.specs.Reach.{reach}
 use Rattle.card_checks.proofs.owners.fill_reaches.Given as goal
 

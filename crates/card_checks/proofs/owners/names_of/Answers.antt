@@ -1,7 +1,6 @@
 -- `names_of`: copied into an array of zeros. Assumes nothing.
 use mathlib.Core.Path.{◌∙◌}
 use Rattle.card_checks.specs.Homes.{copied, get_or_zeros}
-use borrow.Author.Rules.{rules}
 use Rattle.card_checks.proofs.owners.names_of.Goals as goal
 
 pub returns : goal.returns

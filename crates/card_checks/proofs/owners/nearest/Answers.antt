@@ -2,13 +2,12 @@
 use borrow.Author.Rules.{rules}
 use mathlib.Core.Path.{◌≡◌, sym, ◌∙◌, ap}
 use mathlib.Core.Bool.{◌&&◌}
-use Prim.Native.Nat.{◌≤◌, ◌-◌}
 use native.Mathlib.Omega.{arith}
 use Rattle.std.specs.Prelude.{nat_le, nat_eq}
 use lib.ListN.{length, get_or}
 use Rattle.lists.specs.Basics.{first}
 use Rattle.lists.specs.Search.{first_none, first_more, first_at}
-use Rattle.card_checks.specs.Homes.{is_close, closest, nearest}
+use Rattle.card_checks.specs.Homes.{is_close, nearest}
 use Rattle.card_checks.proofs.owners.nearest.Goals as goal
 
 pub loop-m-init : goal.loop-m-init

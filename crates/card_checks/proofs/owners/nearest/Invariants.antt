@@ -1,14 +1,9 @@
 -- `nearest`: no node before m is at that distance. Assumes nothing.
-use borrow.Author.Rules.{rules}
-use mathlib.Core.Path.{◌≡◌, sym, ◌∙◌, ap}
-use mathlib.Core.Bool.{◌&&◌}
+use mathlib.Core.Path.{◌≡◌}
 use Prim.Native.Nat.{◌≤◌, ◌-◌}
-use native.Mathlib.Omega.{arith}
-use Rattle.std.specs.Prelude.{nat_le, nat_eq}
-use lib.ListN.{length, get_or}
+use lib.ListN.{length}
 use Rattle.lists.specs.Basics.{first}
-use Rattle.lists.specs.Search.{first_none, first_more, first_at}
-use Rattle.card_checks.specs.Homes.{is_close, closest, nearest}
+use Rattle.card_checks.specs.Homes.{is_close}
 use Rattle.card_checks.proofs.owners.nearest.Given as goal
 
 abbrev pub invariant-loop-m : goal.invariant-loop-m

@@ -1,12 +1,8 @@
 -- `reach`: the least of the gaps so far. Assumes nothing.
-use borrow.Author.Rules.{rules}
-use mathlib.Core.Path.{◌≡◌, sym, ◌∙◌, ap}
+use mathlib.Core.Path.{◌≡◌}
 use Prim.Native.Nat.{◌≤◌, ◌-◌}
-use native.Mathlib.Omega.{arith}
-use Rattle.std.specs.Prelude.{nat_le, nat_eq}
-use lib.ListN.{length, get_or}
-use Rattle.lists.specs.Basics.{if◌then◌else◌}
-use Rattle.cardlayout.specs.Reach.{top, gap, gap_to, reach, least, least_none, least_more}
+use lib.ListN.{length}
+use Rattle.cardlayout.specs.Reach.{gap_to, least}
 use Rattle.card_checks.proofs.owners.reach.Given as goal
 
 abbrev pub invariant-loop-m : goal.invariant-loop-m

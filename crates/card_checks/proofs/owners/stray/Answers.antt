@@ -1,6 +1,5 @@
 -- `stray`: the three tests of a card, by the tables. Assumes nothing.
 use Rattle.card_checks.specs.Homes.{at_home}
-use borrow.Author.Rules.{rules}
 use Rattle.card_checks.proofs.owners.stray.Goals as goal
 
 pub returns : goal.returns

@@ -2,13 +2,13 @@
 use mathlib.Core.Path.{refl}
 use native.Mathlib.Omega.{arith}
 use borrow.Author.Rules.{rules}
-use Rattle.lists.specs.Basics.{if◌then◌else◌}
+use Rattle.lists.specs.Basics.{when◌then◌else◌}
 use Rattle.card_checks.proofs.preds.arc.Goals as goal
 
 pub returns-then-member : goal.returns-then-member
-unfolding if◌then◌else◌
+unfolding when◌then◌else◌
 returns-then-member c = (rw c.if-member.true refl, search rules)
 
 pub returns : goal.returns
-unfolding if◌then◌else◌
+unfolding when◌then◌else◌
 returns c = (rw c.if-member.false refl, omega arith)

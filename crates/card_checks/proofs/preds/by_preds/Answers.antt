@@ -1,12 +1,12 @@
 -- `by_preds`: of the first h nodes, the gaps, what they add up to, and whether a member's pred is none. Assumes nothing.
 use borrow.Author.Rules.{rules}
 use mathlib.Core.Path.{◌≡◌, refl, sym, ◌∙◌, ap, ap₂}
-use Prim.Native.Nat.{ℕ, ◌+◌, ◌*◌, ◌-◌, ◌≤◌, ◌<◌}
+use Prim.Native.Nat.{◌+◌}
 use native.Mathlib.Omega.{arith}
 use Rattle.std.specs.Prelude.{nat_eq}
 use lib.Dec.{eqb→eq}
-use lib.ListN.{length, get_or, length-set}
-use Rattle.lists.specs.Basics.{if◌then◌else◌}
+use lib.ListN.{get_or, length-set}
+use Rattle.lists.specs.Basics.{when◌then◌else◌}
 use Rattle.lists.specs.Members.{filled}
 use Rattle.lists.specs.Merge.{merged, merged_none, merged_more}
 use Rattle.lists.specs.Tests.{true_T, and_left, and_right}
@@ -31,7 +31,7 @@ loop-h-preserved c = let l = c.loop-h in
       simp length-set l.invariant.1,
       filled l.reaches l.h far.result 0 (gap_back w names) (omega arith) far.ensures l.invariant.2,
       rw (merged_more, ← l.invariant.3, c.when-strangers.ensures, c.failure.ensures),
-      sym (total_more (arc_back w names marks) l.h ∙ ap₂ (λ x y. x + y) (sym l.invariant.4) (sym (c.arc-circle.ensures.0 ∙ ap (λ z. if nat_eq (get_or marks l.h 0) 1 then z + 1 else 0) far.ensures))),
+      sym (total_more (arc_back w names marks) l.h ∙ ap₂ (λ x y. x + y) (sym l.invariant.4) (sym (c.arc-circle.ensures.0 ∙ ap (λ z. when nat_eq (get_or marks l.h 0) 1 then z + 1 else 0) far.ensures))),
       omega (arith, l.invariant.5, c.arc-circle.ensures.1),
     )
 

@@ -1,17 +1,10 @@
 -- `by_preds`: of the first h nodes, the gaps, what they add up to, and whether a member's pred is none. Assumes nothing.
-use borrow.Author.Rules.{rules}
-use mathlib.Core.Path.{◌≡◌, refl, sym, ◌∙◌, ap, ap₂}
-use Prim.Native.Nat.{ℕ, ◌+◌, ◌*◌, ◌-◌, ◌≤◌, ◌<◌}
-use native.Mathlib.Omega.{arith}
-use Rattle.std.specs.Prelude.{nat_eq}
-use lib.Dec.{eqb→eq}
-use lib.ListN.{length, get_or, length-set}
-use Rattle.lists.specs.Basics.{if◌then◌else◌}
-use Rattle.lists.specs.Members.{filled}
-use Rattle.lists.specs.Merge.{merged, merged_none, merged_more}
-use Rattle.lists.specs.Tests.{true_T, and_left, and_right}
-use Rattle.cardlayout.specs.Circle.{total, total_none, total_more}
-use Rattle.card_checks.specs.Preds.{gap_back, strange, arc_back, preds_law}
+use mathlib.Core.Path.{◌≡◌}
+use Prim.Native.Nat.{ℕ, ◌*◌, ◌-◌, ◌≤◌, ◌<◌}
+use lib.ListN.{length, get_or}
+use Rattle.lists.specs.Merge.{merged}
+use Rattle.cardlayout.specs.Circle.{total}
+use Rattle.card_checks.specs.Preds.{gap_back, strange, arc_back}
 use Rattle.card_checks.proofs.preds.by_preds.Given as goal
 
 abbrev pub invariant-loop-h : goal.invariant-loop-h

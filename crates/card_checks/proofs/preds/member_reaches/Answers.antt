@@ -1,5 +1,4 @@
 -- `member_reaches`: by the preds, or searched; a member is one of the n nodes. Assumes nothing.
-use borrow.Author.Rules.{rules}
 use Rattle.card_checks.proofs.preds.member_reaches.Goals as goal
 
 pub returns-then-by_preds : goal.returns-then-by_preds

@@ -1,14 +1,12 @@
 -- `offer`: the questions of both slices, the hub, then the card. Assumes nothing.
 use mathlib.Core.Path.{sym, ◌∙◌, ap}
 use native.Mathlib.Omega.{arith}
-use borrow.Author.Tests.{not-true, not-false}
 use Rattle.protocol.specs.Record.{read}
 use Rattle.protocol.specs.WellFormed.{identifiers}
 use Rattle.protocol.specs.Cards.{marks_in, read_book, offered, offer_written, offer_call}
 use Rattle.layout.specs.Form.{valid}
 use Rattle.card_checks.specs.Homes.{nearest_home}
 use Rattle.card_checks.specs.Ready.{both_1, both_cards_1, both_2, both_cards_2, both_rest, ready}
-use borrow.Author.Rules.{rules}
 use Rattle.card_offers.proofs.offers.offer.Goals as goal
 
 pub returns-then-w-lt-RECORD_WORDS : goal.returns-then-w-lt-RECORD_WORDS

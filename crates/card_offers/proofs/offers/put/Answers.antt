@@ -4,7 +4,6 @@ use Prim.Native.Nat.{◌+◌}
 use lib.ListN.{set}
 use Rattle.protocol.specs.Cards.{cards_in}
 use Rattle.card_offers.specs.Offers.{added_is, offer_kept, offer_24, offer_last}
-use borrow.Author.Rules.{rules}
 use Rattle.card_offers.proofs.offers.put.Goals as goal
 
 pub returns-then-j-m : goal.returns-then-j-m

@@ -2,7 +2,6 @@
 use native.Mathlib.Omega.{arith}
 use Rattle.lists.specs.Splice.{put_tail}
 use Rattle.protocol.specs.Cards.{card_start, card_words}
-use borrow.Author.Rules.{rules}
 use Rattle.card_offers.proofs.offers.put_card.Goals as goal
 
 pub returns : goal.returns

@@ -2,7 +2,6 @@
 use mathlib.Core.Path.{◌∙◌, ap}
 use Rattle.protocol.specs.Cards.{card_start, card_from, read_book, renewed, offer_written}
 use Rattle.card_offers.specs.Offers.{card_of_read, renewed_is, offer_higher, offer_22, offer_23, offer_same}
-use borrow.Author.Rules.{rules}
 use Rattle.card_offers.proofs.offers.renew.Goals as goal
 
 pub returns-then-revision-c : goal.returns-then-revision-c

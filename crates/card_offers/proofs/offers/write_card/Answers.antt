@@ -1,7 +1,6 @@
 -- `write_card`: four words, written one by one. Assumes nothing.
 use native.Mathlib.Omega.{arith}
 use lib.ListN.{length-set}
-use borrow.Author.Rules.{rules}
 use Rattle.card_offers.proofs.offers.write_card.Goals as goal
 
 pub bounds-part-1 : goal.bounds-part-1

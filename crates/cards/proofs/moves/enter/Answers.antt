@@ -3,7 +3,6 @@ use mathlib.Core.Path.{refl, sym, ◌∙◌}
 use native.Mathlib.Omega.{arith}
 use lib.ListN.{length-set}
 use Rattle.cards.specs.Follow.{marked_neat, marked_count, enter_law}
-use borrow.Author.Rules.{rules}
 use Rattle.cards.proofs.moves.enter.Goals as goal
 
 pub slice_bounds-reach-end : goal.slice_bounds-reach-end

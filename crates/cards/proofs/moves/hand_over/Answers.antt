@@ -1,12 +1,12 @@
 -- `hand_over`: the first j cards are handed over. Assumes nothing.
 use borrow.Author.Rules.{rules}
 use mathlib.Core.Path.{◌≡◌, refl, sym, ◌∙◌, ap}
-use Prim.Native.Nat.{ℕ, ◌+◌, ◌≤◌, ◌<◌, ◌-◌}
+use Prim.Native.Nat.{ℕ, ◌+◌, ◌<◌}
 use native.Mathlib.Omega.{arith}
 use Rattle.std.specs.Prelude.{nat_le}
 use lib.ListN.{length, get_or, set, drop, length-set}
 use Rattle.clockwise.specs.Clockwise.{dist}
-use Rattle.lists.specs.Basics.{if◌then◌else◌}
+use Rattle.lists.specs.Basics.{when◌then◌else◌}
 use Rattle.protocol.specs.declared.Card.{Card}
 use Rattle.protocol.specs.Record.{round}
 use Rattle.protocol.specs.Cards.{book_size, card_start, card_from, read_book, put_book}
@@ -26,9 +26,9 @@ loop-j-preserved c = let a = c.args in
     let f = read_fits k c.requires.0 in
     let u : l.j < length (read_book k).cards = omega (arith, count_of_book k, c.requires.1) in
     let t = drop book_size k in
-    let p : Card → ℕ = λ z. if nat_le (dist round z.machine a.id) a.far then a.hub else z.hub in
+    let p : Card → ℕ = λ z. when nat_le (dist round z.machine a.id) a.far then a.hub else z.hub in
     let e : c.pick_word.result ≡ p (get_or (read_book k).cards l.j Rattle.protocol.specs.Cards.no_card) =
-    c.pick_word.ensures ∙ ap (λ z. if nat_le z a.far then a.hub else get_or l.k (card_start l.j + 3) 0) c.distance.ensures
+    c.pick_word.ensures ∙ ap (λ z. when nat_le z a.far then a.hub else get_or l.k (card_start l.j + 3) 0) c.distance.ensures
     ∙ ap p (ap (λ z. card_from z (card_start l.j)) l.invariant.2 ∙ handed_read a.id a.far a.hub (read_book k) t f l.j u) in
     (search rules, simp length-set l.invariant.1, ap (λ z. set z (card_start l.j + 3) c.pick_word.result) l.invariant.2 ∙ handed_more a.id a.far a.hub (read_book k) t f l.j u c.pick_word.result e)
 

@@ -3,7 +3,6 @@ use mathlib.Core.Path.{refl, sym, ◌∙◌}
 use native.Mathlib.Omega.{arith}
 use lib.ListN.{length-set}
 use Rattle.cards.specs.Follow.{marked_neat, marked_count, stay_law, leave_law}
-use borrow.Author.Rules.{rules}
 use Rattle.cards.proofs.moves.leave.Goals as goal
 
 pub returns-then-k-node-eq0 : goal.returns-then-k-node-eq0

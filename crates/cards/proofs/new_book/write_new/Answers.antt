@@ -3,7 +3,6 @@ use mathlib.Core.Path.{◌∙◌, ap}
 use Prim.Native.Nat.{◌+◌}
 use lib.ListN.{set}
 use Rattle.cards.specs.New.{new_law}
-use borrow.Author.Rules.{rules}
 use Rattle.cards.proofs.new_book.write_new.Goals as goal
 
 pub returns : goal.returns

@@ -12,7 +12,6 @@ use Rattle.protocol.specs.WellFormed.{identifiers}
 use Rattle.protocol.specs.Cards.{marks_in, following}
 use Rattle.card_checks.specs.Marks.{some_marked, any_law, others_law}
 use Rattle.cards.specs.Follow.{off_bits}
-use borrow.Author.Rules.{rules}
 use Rattle.cards.proofs.perform.depart.Goals as goal
 
 pub returns-then-others-eq0 : goal.returns-then-others-eq0

@@ -7,7 +7,6 @@ use Rattle.protocol.specs.WellFormed.{identifiers}
 use lib.ListN.{length}
 use Rattle.protocol.specs.Cards.{following}
 use Rattle.cards.specs.Movers.{Bound}
-use borrow.Author.Rules.{rules}
 use Rattle.cards.proofs.perform.follow.Goals as goal
 
 pub enter-requires : goal.enter-requires

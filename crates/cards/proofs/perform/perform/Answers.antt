@@ -9,7 +9,6 @@ use lib.ListN.{length}
 use Rattle.protocol.specs.Cards.{after_call}
 use Rattle.cards.specs.Movers.{bound_more}
 use Rattle.cards.specs.Asked.{came_back, answer_bound, after_law, refused_kept}
-use borrow.Author.Rules.{rules}
 use Rattle.cards.proofs.perform.perform.Goals as goal
 
 pub follow-requires : goal.follow-requires

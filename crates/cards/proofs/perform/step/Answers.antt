@@ -1,12 +1,10 @@
 -- `step`: the questions of both slices, then `perform`. Assumes nothing.
 use mathlib.Core.Path.{sym, ◌∙◌}
 use native.Mathlib.Omega.{arith}
-use borrow.Author.Tests.{not-true, not-false}
 use Rattle.protocol.specs.Calls.{step_call}
 use Rattle.protocol.specs.Cards.{after_call, step_cards}
 use Rattle.layout.specs.Form.{valid}
 use Rattle.card_checks.specs.Ready.{both_1, both_cards_1, both_2, both_cards_2, both_rest, ready}
-use borrow.Author.Rules.{rules}
 use Rattle.cards.proofs.perform.step.Goals as goal
 
 pub returns-then-w-lt-RECORD_WORDS : goal.returns-then-w-lt-RECORD_WORDS

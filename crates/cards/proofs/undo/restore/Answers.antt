@@ -1,9 +1,8 @@
 -- `restore`: the first i words are put back. Assumes nothing.
 use borrow.Author.Rules.{rules}
-use mathlib.Core.Path.{◌≡◌, refl, ◌∙◌}
-use Prim.Native.Nat.{ℕ, ◌≤◌, ◌<◌, ◌-◌}
+use mathlib.Core.Path.{refl, ◌∙◌}
 use native.Mathlib.Omega.{arith}
-use lib.ListN.{length, get_or, length-set}
+use lib.ListN.{get_or, length-set}
 use lib.Seq.{get_or-set_other}
 use Rattle.lists.specs.Members.{filled}
 use Rattle.cards.specs.Asked.{restored_all}

@@ -1,12 +1,7 @@
 -- `restore`: the first i words are put back. Assumes nothing.
-use borrow.Author.Rules.{rules}
-use mathlib.Core.Path.{◌≡◌, refl, ◌∙◌}
+use mathlib.Core.Path.{◌≡◌}
 use Prim.Native.Nat.{ℕ, ◌≤◌, ◌<◌, ◌-◌}
-use native.Mathlib.Omega.{arith}
-use lib.ListN.{length, get_or, length-set}
-use lib.Seq.{get_or-set_other}
-use Rattle.lists.specs.Members.{filled}
-use Rattle.cards.specs.Asked.{restored_all}
+use lib.ListN.{length, get_or}
 use Rattle.cards.proofs.undo.restore.Given as goal
 
 abbrev pub invariant-loop-i : goal.invariant-loop-i

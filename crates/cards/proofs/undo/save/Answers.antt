@@ -1,11 +1,9 @@
 -- `save`: the first i words are copied. Assumes nothing.
 use borrow.Author.Rules.{rules}
-use mathlib.Core.Path.{◌≡◌, refl}
-use Prim.Native.Nat.{ℕ, ◌≤◌, ◌<◌, ◌-◌}
+use mathlib.Core.Path.{refl}
 use native.Mathlib.Omega.{arith}
-use lib.ListN.{length, get_or, length-set}
+use lib.ListN.{get_or, length-set}
 use Rattle.lists.specs.Members.{filled}
-use Rattle.protocol.specs.Record.{record_size}
 use Rattle.cards.specs.Asked.{saved_all}
 use Rattle.cards.proofs.undo.save.Goals as goal
 

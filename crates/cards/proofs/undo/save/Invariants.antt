@@ -1,12 +1,8 @@
 -- `save`: the first i words are copied. Assumes nothing.
-use borrow.Author.Rules.{rules}
-use mathlib.Core.Path.{◌≡◌, refl}
+use mathlib.Core.Path.{◌≡◌}
 use Prim.Native.Nat.{ℕ, ◌≤◌, ◌<◌, ◌-◌}
-use native.Mathlib.Omega.{arith}
-use lib.ListN.{length, get_or, length-set}
-use Rattle.lists.specs.Members.{filled}
+use lib.ListN.{length, get_or}
 use Rattle.protocol.specs.Record.{record_size}
-use Rattle.cards.specs.Asked.{saved_all}
 use Rattle.cards.proofs.undo.save.Given as goal
 
 abbrev pub invariant-loop-i : goal.invariant-loop-i

@@ -1,5 +1,4 @@
 -- `founding::founder::founding_node` is `founder_of`, by the two founders. Assumes nothing.
-use borrow.Author.Rules.{rules}
 use Rattle.founding.proofs.founder.founding_node.Goals as goal
 
 pub returns-in-Smallest : goal.returns-in-Smallest

@@ -1,10 +1,7 @@
 -- `founding::founder::smallest` is `smallest`: of the first i nodes, `node` has the smallest identifier so far. Assumes nothing.
-use borrow.Author.Rules.{rules}
 use native.Mathlib.Omega.{arith}
-use mathlib.Core.Logic.{inl, inr}
 use mathlib.Core.Path.{sym, subst}
-use Prim.Native.Nat.{◌≤◌, ◌+◌, ◌-◌}
-use lib.ListN.{length}
+use Prim.Native.Nat.{◌+◌}
 use Rattle.layout.specs.Founder.{Least, least_one, least_new, least_same, walk_ends}
 use Rattle.founding.proofs.founder.smallest.Goals as goal
 use Rattle.founding.proofs.founder.smallest.Goals.{then-identifiers-i, else-identifiers-i}

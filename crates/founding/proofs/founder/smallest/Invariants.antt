@@ -1,11 +1,7 @@
 -- `founding::founder::smallest` is `smallest`: of the first i nodes, `node` has the smallest identifier so far. Assumes nothing.
-use borrow.Author.Rules.{rules}
-use native.Mathlib.Omega.{arith}
-use mathlib.Core.Logic.{inl, inr}
-use mathlib.Core.Path.{sym, subst}
 use Prim.Native.Nat.{◌≤◌, ◌+◌, ◌-◌}
 use lib.ListN.{length}
-use Rattle.layout.specs.Founder.{Least, least_one, least_new, least_same, walk_ends}
+use Rattle.layout.specs.Founder.{Least}
 use Rattle.founding.proofs.founder.smallest.Given as goal
 
 abbrev pub invariant-loop-i : goal.invariant-loop-i

@@ -2,9 +2,7 @@
 use borrow.Author.Rules.{rules}
 use native.Mathlib.Omega.{arith}
 use mathlib.Core.Path.{◌≡◌, refl}
-use mathlib.Core.List.{◌++◌}
-use Prim.Native.Nat.{◌≤◌, ◌-◌}
-use lib.ListN.{length, length-set, drop, replicate}
+use lib.ListN.{length-set}
 use Rattle.founding.specs.Laws.{cleared_more}
 use Rattle.founding.proofs.writing.clear.Goals as goal
 

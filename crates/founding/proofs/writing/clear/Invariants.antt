@@ -1,11 +1,8 @@
 -- `founding::writing::clear` meets its contract: k words are 0 so far, and the others as they were. Assumes nothing.
-use borrow.Author.Rules.{rules}
-use native.Mathlib.Omega.{arith}
-use mathlib.Core.Path.{◌≡◌, refl}
+use mathlib.Core.Path.{◌≡◌}
 use mathlib.Core.List.{◌++◌}
 use Prim.Native.Nat.{◌≤◌, ◌-◌}
-use lib.ListN.{length, length-set, drop, replicate}
-use Rattle.founding.specs.Laws.{cleared_more}
+use lib.ListN.{length, drop, replicate}
 use Rattle.founding.proofs.writing.clear.Given as goal
 
 abbrev pub invariant-loop-k : goal.invariant-loop-k

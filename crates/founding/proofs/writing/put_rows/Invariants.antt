@@ -1,13 +1,10 @@
 -- `founding::writing::put_rows` meets its contract: the rows of the first i identifiers are put so far. Assumes nothing.
-use borrow.Author.Rules.{rules}
-use native.Mathlib.Omega.{arith}
-use mathlib.Core.Path.{◌≡◌, refl, ◌∙◌, ap}
+use mathlib.Core.Path.{◌≡◌}
 use Prim.Native.Nat.{◌≤◌, ◌-◌}
 use lib.ListN.{length, take}
-use lib.Seq.{take-length}
 use Rattle.lists.specs.Splice.{splice}
 use Rattle.protocol.specs.Record.{row_start}
-use Rattle.founding.specs.Laws.{outsiders, rows_none, rows_more}
+use Rattle.founding.specs.Laws.{outsiders}
 use Rattle.founding.proofs.writing.put_rows.Given as goal
 
 abbrev pub invariant-loop-i : goal.invariant-loop-i

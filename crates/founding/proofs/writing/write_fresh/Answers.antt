@@ -3,7 +3,6 @@ use mathlib.Core.Path.{◌∙◌}
 use native.Mathlib.Omega.{arith}
 use lib.ListN.{length-set}
 use Rattle.founding.specs.Laws.{fresh_is}
-use borrow.Author.Rules.{rules}
 use Rattle.founding.proofs.writing.write_fresh.Goals as goal
 
 pub bounds-w-1 : goal.bounds-w-1

@@ -1,30 +1,30 @@
 -- `frames::reading::decode` is `frame`: each return is what the questions before it say. Assumes nothing.
 use Rattle.protocol.specs.Frames.{frame, command}
-use Rattle.lists.specs.Basics.{if◌then◌else◌, require}
+use Rattle.lists.specs.Basics.{when◌then◌else◌, require}
 use borrow.Author.Tests.{eq-eqb, ne_eqb, lt-leb, le-leb, not-true, not-false}
 use borrow.Author.Rules.{rules}
 use Rattle.frames.proofs.reading.decode.Goals as goal
 
 pub returns-then-line-gt514 : goal.returns-then-line-gt514
-unfolding frame require if◌then◌else◌
+unfolding frame require when◌then◌else◌
 returns-then-line-gt514 c = simp (lt-leb _ _ c.if-line-gt514.true)
 
 pub returns-then-not-all_digits : goal.returns-then-not-all_digits
-unfolding frame require if◌then◌else◌
+unfolding frame require when◌then◌else◌
 returns-then-not-all_digits c = simp (le-leb _ _ c.if-line-gt514.false, ← c.all_digits.ensures, c.if-not-all_digits.true)
 
 pub returns-then-line-lt2 : goal.returns-then-line-lt2
-unfolding frame require if◌then◌else◌
+unfolding frame require when◌then◌else◌
 returns-then-line-lt2 c = simp (le-leb _ _ c.if-line-gt514.false, ← c.all_digits.ensures, c.if-not-all_digits.false, lt-leb _ _ c.if-line-lt2.true)
 
 pub returns-then-operation-eq240 : goal.returns-then-operation-eq240
-unfolding frame require if◌then◌else◌
+unfolding frame require when◌then◌else◌
 returns-then-operation-eq240 c = simp (le-leb _ _ c.if-line-gt514.false, ← c.all_digits.ensures, c.if-not-all_digits.false, le-leb _ _ c.if-line-lt2.false, ← c.read2-operation.ensures, eq-eqb _ _ c.if-operation-eq240.true) c.founding.ensures
 
 pub returns-then-line-ne18 : goal.returns-then-line-ne18
-unfolding command frame require if◌then◌else◌
+unfolding command frame require when◌then◌else◌
 returns-then-line-ne18 c = simp (le-leb _ _ c.if-line-gt514.false, ← c.all_digits.ensures, c.if-not-all_digits.false, le-leb _ _ c.if-line-lt2.false, ← c.read2-operation.ensures, ne_eqb _ _ c.if-operation-eq240.false, ne_eqb _ _ c.if-line-ne18.true)
 
 pub returns : goal.returns
-unfolding command frame require if◌then◌else◌
+unfolding command frame require when◌then◌else◌
 returns c = simp (le-leb _ _ c.if-line-gt514.false, ← c.all_digits.ensures, c.if-not-all_digits.false, le-leb _ _ c.if-line-lt2.false, ← c.read2-operation.ensures, ne_eqb _ _ c.if-operation-eq240.false, eq-eqb _ _ c.if-line-ne18.false, ← c.read8.ensures, ← c.read8-2.ensures)

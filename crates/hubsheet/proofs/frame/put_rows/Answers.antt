@@ -4,18 +4,18 @@ use native.Mathlib.Omega.{arith}
 use borrow.Author.Tests.{le-leb, lt-leb, not-true, not-false}
 use lib.ListN.{take}
 use lib.Seq.{length-take-le}
-use Rattle.lists.specs.Basics.{if◌then◌else◌, require}
+use Rattle.lists.specs.Basics.{when◌then◌else◌, require}
 use Rattle.protocol.specs.Frames.{refusal_text, print2}
 use Rattle.hubsheet.specs.Line.{refusal_line, rows_line, founding_small}
 use borrow.Author.Rules.{rules}
 use Rattle.hubsheet.proofs.frame.put_rows.Goals as goal
 
 pub returns-then-not-fits : goal.returns-then-not-fits
-unfolding rows_line refusal_line refusal_text print2 require if◌then◌else◌
+unfolding rows_line refusal_line refusal_text print2 require when◌then◌else◌
 returns-then-not-fits c = simp (c.if-not-fits.true) (search rules, c.put_refusal.ensures.0, c.put_refusal.ensures.1)
 
 pub returns-then-rows-gt64 : goal.returns-then-rows-gt64
-unfolding rows_line refusal_line refusal_text print2 require if◌then◌else◌
+unfolding rows_line refusal_line refusal_text print2 require when◌then◌else◌
 returns-then-rows-gt64 c = simp (c.if-not-fits.false, lt-leb c.args.rows 64 c.if-rows-gt64.true) (search rules, c.put_refusal-then-rows-gt64.ensures.0, c.put_refusal-then-rows-gt64.ensures.1)
 
 pub slice_bounds-put_founding-end : goal.slice_bounds-put_founding-end
@@ -25,5 +25,5 @@ pub put_founding-requires : goal.put_founding-requires
 put_founding-requires c = let l = length-take-le c.args.rows c.args.identifiers.now (omega arith) in (omega arith, c.requires.1)
 
 pub returns : goal.returns
-unfolding rows_line require if◌then◌else◌
+unfolding rows_line require when◌then◌else◌
 returns c = let l = length-take-le c.args.rows c.args.identifiers.now (omega arith) in let s = founding_small (take c.args.rows c.args.identifiers.now) (omega arith) in let e = c.put_founding.ensures.0 in simp (c.if-not-fits.false, le-leb c.args.rows 64 c.if-rows-gt64.false) (omega arith, c.put_founding.ensures.0, c.put_founding.ensures.1)

@@ -1,12 +1,12 @@
 use Rattle.sheets.specs.Reader.{next}
-use Rattle.lists.specs.Basics.{if◌then◌else◌}
+use Rattle.lists.specs.Basics.{when◌then◌else◌}
 use borrow.Author.Rules.{rules}
 use Rattle.hubsheet.proofs.places.number_opened.Goals as goal
 
 pub returns-then-is_digit : goal.returns-then-is_digit
-unfolding next if◌then◌else◌
+unfolding next when◌then◌else◌
 returns-then-is_digit c = simp (c.if-is_digit.true, ← c.is_digit.ensures)
 
 pub returns : goal.returns
-unfolding next if◌then◌else◌
+unfolding next when◌then◌else◌
 returns c = simp (c.if-is_digit.false, ← c.is_digit.ensures)

@@ -1,12 +1,12 @@
 use Rattle.sheets.specs.Reader.{next}
-use Rattle.lists.specs.Basics.{if◌then◌else◌}
+use Rattle.lists.specs.Basics.{when◌then◌else◌}
 use borrow.Author.Tests.{eq-eqb, ne_eqb}
 use Rattle.hubsheet.proofs.places.returned.Goals as goal
 
 pub returns-then-b-eq-LF : goal.returns-then-b-eq-LF
-unfolding next if◌then◌else◌
+unfolding next when◌then◌else◌
 returns-then-b-eq-LF c = simp (eq-eqb _ _ c.if-b-eq-LF.true)
 
 pub returns : goal.returns
-unfolding next if◌then◌else◌
+unfolding next when◌then◌else◌
 returns c = simp (ne_eqb _ _ c.if-b-eq-LF.false)

@@ -1,12 +1,12 @@
 use Rattle.sheets.specs.Reader.{row_end}
-use Rattle.lists.specs.Basics.{if◌then◌else◌}
+use Rattle.lists.specs.Basics.{when◌then◌else◌}
 use borrow.Author.Tests.{eq-eqb, ne_eqb}
 use Rattle.hubsheet.proofs.places.row_end.Goals as goal
 
 pub returns-then-b-eq-CR : goal.returns-then-b-eq-CR
-unfolding row_end if◌then◌else◌
+unfolding row_end when◌then◌else◌
 returns-then-b-eq-CR c = simp (eq-eqb _ _ c.if-b-eq-CR.true)
 
 pub returns : goal.returns
-unfolding row_end if◌then◌else◌
+unfolding row_end when◌then◌else◌
 returns c = simp (ne_eqb _ _ c.if-b-eq-CR.false)

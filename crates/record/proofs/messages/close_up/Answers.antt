@@ -2,7 +2,6 @@
 use native.Mathlib.Omega.{arith}
 use Rattle.lists.specs.Splice.{put_tail, shifted, closed_up, length_shifted}
 use Rattle.protocol.specs.Record.{message_size, message_words, no_message}
-use borrow.Author.Rules.{rules}
 use Rattle.record.proofs.messages.close_up.Goals as goal
 
 pub returns : goal.returns

@@ -2,9 +2,7 @@
 use Rattle.layout.specs.Words.{on_link_read, oldest_read}
 use borrow.Author.Rules.{rules}
 use mathlib.Core.Path.{◌≡◌, sym, ◌∙◌}
-use Prim.Native.Nat.{◌≤◌, ◌-◌}
 use native.Mathlib.Omega.{arith}
-use Rattle.lists.specs.Basics.{first}
 use Rattle.lists.specs.Search.{first_none, first_more, first_at}
 use Rattle.protocol.specs.Record.{read, messages_in}
 use Rattle.protocol.specs.Step.{on_link}

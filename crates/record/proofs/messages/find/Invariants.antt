@@ -1,12 +1,8 @@
 -- `find`: no message before i is on the link; the first that is, is the oldest. Assumes nothing.
-use Rattle.layout.specs.Words.{on_link_read, oldest_read}
-use borrow.Author.Rules.{rules}
-use mathlib.Core.Path.{◌≡◌, sym, ◌∙◌}
+use mathlib.Core.Path.{◌≡◌}
 use Prim.Native.Nat.{◌≤◌, ◌-◌}
-use native.Mathlib.Omega.{arith}
 use Rattle.lists.specs.Basics.{first}
-use Rattle.lists.specs.Search.{first_none, first_more, first_at}
-use Rattle.protocol.specs.Record.{read, messages_in}
+use Rattle.protocol.specs.Record.{read}
 use Rattle.protocol.specs.Step.{on_link}
 use Rattle.record.proofs.messages.find.Given as goal
 

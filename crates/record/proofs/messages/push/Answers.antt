@@ -2,7 +2,6 @@
 use native.Mathlib.Omega.{arith}
 use Rattle.lists.specs.Splice.{put_tail}
 use Rattle.protocol.specs.Record.{message_start, message_words}
-use borrow.Author.Rules.{rules}
 use Rattle.record.proofs.messages.push.Goals as goal
 
 pub returns : goal.returns

@@ -2,7 +2,6 @@
 use Rattle.lists.specs.Splice.{part_from, part_back}
 use Rattle.protocol.specs.Record.{message_start}
 use Rattle.layout.specs.Edits.{removed}
-use borrow.Author.Rules.{rules}
 use Rattle.record.proofs.messages.remove.Goals as goal
 
 pub returns : goal.returns

@@ -1,10 +1,9 @@
 -- `shift`: the first k words have come forward by the width of a message, the others are as they were. Assumes nothing.
-use borrow.Author.Rules.{rules}
 use mathlib.Core.Path.{◌≡◌, refl}
-use Prim.Native.Nat.{◌≤◌, ◌<◌, ◌-◌, ◌+◌}
+use Prim.Native.Nat.{◌<◌, ◌+◌}
 use native.Mathlib.Omega.{arith}
 use lib.ListN.{length, length-set}
-use Rattle.lists.specs.Splice.{shifted, shifted_none, shifted_read, shifted_step}
+use Rattle.lists.specs.Splice.{shifted_none, shifted_read, shifted_step}
 use Rattle.protocol.specs.Record.{message_size}
 use Rattle.record.proofs.messages.shift.Goals as goal
 

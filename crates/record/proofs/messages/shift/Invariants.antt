@@ -1,10 +1,8 @@
 -- `shift`: the first k words have come forward by the width of a message, the others are as they were. Assumes nothing.
-use borrow.Author.Rules.{rules}
-use mathlib.Core.Path.{◌≡◌, refl}
-use Prim.Native.Nat.{◌≤◌, ◌<◌, ◌-◌, ◌+◌}
-use native.Mathlib.Omega.{arith}
-use lib.ListN.{length, length-set}
-use Rattle.lists.specs.Splice.{shifted, shifted_none, shifted_read, shifted_step}
+use mathlib.Core.Path.{◌≡◌}
+use Prim.Native.Nat.{◌≤◌, ◌-◌}
+use lib.ListN.{length}
+use Rattle.lists.specs.Splice.{shifted}
 use Rattle.protocol.specs.Record.{message_size}
 use Rattle.record.proofs.messages.shift.Given as goal
 

@@ -1,7 +1,6 @@
 -- `write_message`: six words, written one by one, are the words of the message. Assumes nothing.
 use native.Mathlib.Omega.{arith}
 use lib.ListN.{length-set}
-use borrow.Author.Rules.{rules}
 use Rattle.record.proofs.messages.write_message.Goals as goal
 
 pub bounds-part-1 : goal.bounds-part-1

@@ -1,7 +1,6 @@
 -- `edit_row`: seven words of the lent part, written one by one, are the words of the row. Assumes nothing.
 use native.Mathlib.Omega.{arith}
 use lib.ListN.{length-set}
-use borrow.Author.Rules.{rules}
 use Rattle.record.proofs.rows.edit_row.Goals as goal
 
 pub bounds-part-1 : goal.bounds-part-1

@@ -1,7 +1,6 @@
 -- `identifier_of`: the first word of the row; the zero identifier where there is no node. Assumes nothing.
 use mathlib.Core.Path.{ap, sym}
 use Rattle.layout.specs.Words.{row_of_read, row_beyond}
-use borrow.Author.Rules.{rules}
 use Rattle.record.proofs.rows.identifier_of.Goals as goal
 
 pub returns-then-node-w : goal.returns-then-node-w

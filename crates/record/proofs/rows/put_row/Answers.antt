@@ -2,7 +2,6 @@
 use native.Mathlib.Omega.{arith}
 use Rattle.lists.specs.Splice.{put_tail}
 use Rattle.protocol.specs.Record.{row_start, row_words}
-use borrow.Author.Rules.{rules}
 use Rattle.record.proofs.rows.put_row.Goals as goal
 
 pub returns : goal.returns

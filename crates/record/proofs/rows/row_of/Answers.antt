@@ -1,7 +1,6 @@
 -- `row_of`: the seven words of a row, read field by field. Assumes nothing.
 use mathlib.Core.Path.{◌∙◌, sym}
 use Rattle.layout.specs.Words.{row_of_read, row_beyond}
-use borrow.Author.Rules.{rules}
 use Rattle.record.proofs.rows.row_of.Goals as goal
 
 pub returns-then-node-w : goal.returns-then-node-w

@@ -1,7 +1,6 @@
 -- `fill_bytes`: the rows up to i are written. Assumes nothing.
 use mathlib.Core.Path.{◌≡◌, refl, sym, ap, ◌∙◌, subst}
-use mathlib.Core.List.{[]}
-use Prim.Native.Nat.{◌-◌, ◌*◌}
+use Prim.Native.Nat.{◌*◌}
 use native.Mathlib.Omega.{arith}
 use lib.ListN.{length}
 use Rattle.lists.specs.Splice.{splice}
@@ -10,8 +9,7 @@ use Rattle.sheets.specs.declared.Place.TheVariants.{Start}
 use Rattle.sheet_reading.specs.Carried.{bytes_append, length_bytes}
 use Rattle.sheet_reading.specs.Put.{Readable}
 use Rattle.sheets.specs.Words.{words, length_words}
-use Rattle.sheet_reading.specs.Filled.{Filled, filled_none, fill_readable, row_there, filled_row, filled_all}
-use borrow.Author.Rules.{rules}
+use Rattle.sheet_reading.specs.Filled.{filled_none, fill_readable, row_there, filled_row, filled_all}
 use Rattle.sheet_reading.proofs.carried.fill_bytes.Goals as goal
 
 pub loop-i-init : goal.loop-i-init

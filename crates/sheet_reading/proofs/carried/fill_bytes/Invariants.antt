@@ -1,17 +1,9 @@
 -- `fill_bytes`: the rows up to i are written. Assumes nothing.
-use mathlib.Core.Path.{◌≡◌, refl, sym, ap, ◌∙◌, subst}
-use mathlib.Core.List.{[]}
-use Prim.Native.Nat.{◌-◌, ◌*◌}
-use native.Mathlib.Omega.{arith}
+use mathlib.Core.Path.{◌≡◌}
+use Prim.Native.Nat.{◌-◌}
 use lib.ListN.{length}
-use Rattle.lists.specs.Splice.{splice}
-use Rattle.protocol.specs.Bytes.{word_bytes, bytes_of}
-use Rattle.sheets.specs.declared.Place.TheVariants.{Start}
-use Rattle.sheet_reading.specs.Carried.{bytes_append, length_bytes}
-use Rattle.sheet_reading.specs.Put.{Readable}
-use Rattle.sheets.specs.Words.{words, length_words}
-use Rattle.sheet_reading.specs.Filled.{Filled, filled_none, fill_readable, row_there, filled_row, filled_all}
-use borrow.Author.Rules.{rules}
+use Rattle.protocol.specs.Bytes.{bytes_of}
+use Rattle.sheet_reading.specs.Filled.{Filled}
 use Rattle.sheet_reading.proofs.carried.fill_bytes.Given as goal
 
 abbrev pub invariant-loop-i : goal.invariant-loop-i

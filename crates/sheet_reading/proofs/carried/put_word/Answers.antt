@@ -4,7 +4,6 @@ use mathlib.Core.List.{[], ◌∷◌}
 use Prim.Native.Nat.{◌/◌, ◌%◌}
 use Rattle.lists.specs.Splice.{splice}
 use Rattle.sheets.specs.Laying.{four_pieces}
-use borrow.Author.Rules.{rules}
 use Rattle.sheet_reading.proofs.carried.put_word.Goals as goal
 
 pub returns : goal.returns

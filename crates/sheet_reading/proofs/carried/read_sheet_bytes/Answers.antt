@@ -2,14 +2,13 @@
 use mathlib.Core.Path.{sym, ◌∙◌}
 use Prim.Native.Nat.{◌/◌}
 use native.Mathlib.Omega.{arith}
-use borrow.Author.Tests.{ltb-true, ltb-false, not-true, not-false}
+use borrow.Author.Tests.{ltb-true, ltb-false}
 use Rattle.protocol.specs.Bytes.{bytes_of}
 use Rattle.sheets.specs.Calls.{read_bytes_call}
 use Rattle.sheet_reading.specs.Carried.{length_bytes}
 use Rattle.std.specs.Prelude.{nat_lt}
 use lib.ListN.{length}
 use Rattle.sheet_reading.specs.Filled.{accepted, neither, read_none, too_large, room_short, roomy, all_read}
-use borrow.Author.Rules.{rules}
 use Rattle.sheet_reading.proofs.carried.read_sheet_bytes.Goals as goal
 
 pub returns-in_default : goal.returns-in_default

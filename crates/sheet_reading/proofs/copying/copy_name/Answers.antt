@@ -2,9 +2,8 @@
 use mathlib.Core.Path.{refl}
 use native.Mathlib.Omega.{arith}
 use lib.ListN.{length, length-set}
-use Rattle.lists.specs.Basics.{if◌then◌else◌}
+use Rattle.lists.specs.Basics.{when◌then◌else◌}
 use Rattle.sheet_reading.specs.Put.{place_for, test_for, plain_copies, unquoted_name, quoted_name, name_opened, zero_room, plain_put}
-use borrow.Author.Rules.{rules}
 use Rattle.sheet_reading.proofs.copying.copy_name.Goals as goal
 
 pub copy_quoted-requires : goal.copy_quoted-requires
@@ -17,7 +16,7 @@ pub returns-then-text-from-eq-QUOTE : goal.returns-then-text-from-eq-QUOTE
 returns-then-text-from-eq-QUOTE c = name_opened c.args.text.now c.args.from c.args.at (length c.args.names.now) c.requires.0 c.if-text-from-eq-QUOTE.true c.args.names.now _ c.copy_quoted.result c.copy_quoted.ensures
 
 pub copy_until-e-requires : goal.copy_until-e-requires
-unfolding place_for test_for if◌then◌else◌
+unfolding place_for test_for when◌then◌else◌
 copy_until-e-requires c = (plain_copies, unquoted_name c.args.text.now c.args.from c.args.at (length c.args.names.now) c.requires.0 c.if-text-from-eq-QUOTE.false c.requires.1)
 
 pub overflow_sub-k : goal.overflow_sub-k

@@ -2,13 +2,13 @@
 use mathlib.Core.Path.{refl, sym, ◌∙◌, subst}
 use native.Mathlib.Omega.{arith}
 use lib.ListN.{length}
-use Rattle.lists.specs.Basics.{if◌then◌else◌}
+use Rattle.lists.specs.Basics.{when◌then◌else◌}
 use Rattle.sheets.specs.declared.Place.TheVariants.{Quoted}
 use Rattle.sheet_reading.specs.Put.{Readable, place_for, test_for, quoted_copies, quotes_readable, quotes_there, quotes_put}
 use Rattle.sheet_reading.proofs.copying.copy_quoted.Goals as goal
 
 pub copy_until-q-requires : goal.copy_until-q-requires
-unfolding place_for test_for if◌then◌else◌
+unfolding place_for test_for when◌then◌else◌
 copy_until-q-requires c = (quoted_copies, c.requires)
 
 pub overflow_sub-q : goal.overflow_sub-q

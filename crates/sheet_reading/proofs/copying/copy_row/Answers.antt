@@ -3,7 +3,6 @@ use mathlib.Core.Path.{subst}
 use lib.ListN.{length}
 use Rattle.sheet_reading.specs.Judged.{NumberIs, EndIs}
 use Rattle.sheet_reading.specs.Put.{number_there, end_there, row_put_lem}
-use borrow.Author.Rules.{rules}
 use Rattle.sheet_reading.proofs.copying.copy_row.Goals as goal
 
 pub copy_name-p-requires : goal.copy_name-p-requires

@@ -1,12 +1,8 @@
 -- `copy_until`: the bytes up to i are copied, and the one that ends them is ahead. Assumes nothing.
-use mathlib.Core.Path.{◌≡◌, refl}
-use mathlib.Core.Bool.{true}
-use Prim.Native.Nat.{◌-◌, ◌≤◌}
+use mathlib.Core.Path.{refl}
 use native.Mathlib.Omega.{arith}
 use lib.ListN.{length, length-set}
-use Rattle.lists.specs.Basics.{every}
-use Rattle.lists.specs.Splice.{splice}
-use Rattle.sheet_reading.specs.Runs.{between, every_empty, every_between}
+use Rattle.sheet_reading.specs.Runs.{every_empty, every_between}
 use Rattle.sheet_reading.specs.Put.{test_for, copy_goes, copy_passes, copy_room, copy_none, copy_more}
 use borrow.Author.Rules.{rules}
 use Rattle.sheet_reading.proofs.copying.copy_until.Goals as goal

@@ -1,7 +1,6 @@
 -- `number_of`: a quoted number, or digits. Assumes nothing.
 use native.Mathlib.Omega.{arith}
 use Rattle.sheet_reading.specs.Put.{number_goes, number_plain, number_quoted_lem}
-use borrow.Author.Rules.{rules}
 use Rattle.sheet_reading.proofs.copying.number_of.Goals as goal
 
 pub bounds-text-from : goal.bounds-text-from

@@ -1,17 +1,15 @@
 -- `fill`: the rows up to i are written. Assumes nothing.
-use mathlib.Core.Path.{◌≡◌, refl, sym, ap, ◌∙◌, subst}
+use mathlib.Core.Path.{refl, sym, ap, ◌∙◌, subst}
 use mathlib.Core.List.{[], ◌∷◌}
-use Prim.Native.Nat.{◌-◌}
 use native.Mathlib.Omega.{arith}
-use lib.ListN.{length, length-set}
+use lib.ListN.{length-set}
 use Rattle.lists.specs.Splice.{splice}
 use Rattle.sheets.specs.declared.Place.TheVariants.{Start}
 use Rattle.sheets.specs.Calls.{as_words}
 use Rattle.sheets.specs.Laying.{splice_one}
 use Rattle.sheet_reading.specs.Put.{Readable}
 use Rattle.sheets.specs.Words.{length_words}
-use Rattle.sheet_reading.specs.Filled.{Filled, filled_none, fill_readable, row_there, filled_row, filled_all}
-use borrow.Author.Rules.{rules}
+use Rattle.sheet_reading.specs.Filled.{filled_none, fill_readable, row_there, filled_row, filled_all}
 use Rattle.sheet_reading.proofs.filling.fill.Goals as goal
 
 pub loop-i-init : goal.loop-i-init

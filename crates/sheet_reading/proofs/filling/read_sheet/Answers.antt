@@ -1,12 +1,11 @@
 -- `read_sheet`: judged, then written. Assumes nothing.
 use mathlib.Core.Path.{sym, ◌∙◌}
 use native.Mathlib.Omega.{arith}
-use borrow.Author.Tests.{ltb-true, ltb-false, not-true, not-false}
+use borrow.Author.Tests.{ltb-true, ltb-false}
 use Rattle.sheets.specs.Calls.{as_words, read_call}
 use Rattle.std.specs.Prelude.{nat_lt}
 use lib.ListN.{length}
 use Rattle.sheet_reading.specs.Filled.{accepted, neither, read_none, too_large, room_short, roomy, all_read}
-use borrow.Author.Rules.{rules}
 use Rattle.sheet_reading.proofs.filling.read_sheet.Goals as goal
 
 pub returns-in_default : goal.returns-in_default

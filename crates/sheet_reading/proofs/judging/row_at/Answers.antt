@@ -2,7 +2,6 @@
 use mathlib.Core.Path.{subst}
 use Rattle.sheets.specs.declared.Place.TheVariants.{Start, Number}
 use Rattle.sheet_reading.specs.Judged.{NameIs, NumberIs, EndIs, row_no_name, row_no_number, row_no_end, row_read}
-use borrow.Author.Rules.{rules}
 use Rattle.sheet_reading.proofs.judging.row_at.Goals as goal
 
 pub name_at-n-requires : goal.name_at-n-requires

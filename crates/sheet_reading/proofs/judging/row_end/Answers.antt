@@ -1,7 +1,6 @@
 -- `row_end`: the end of the text, or CR LF. Assumes nothing.
 use native.Mathlib.Omega.{arith}
 use Rattle.sheet_reading.specs.Judged.{end_text, end_stops, end_cut, end_bare, end_row}
-use borrow.Author.Rules.{rules}
 use Rattle.sheet_reading.proofs.judging.row_end.Goals as goal
 
 pub returns-then-from-text : goal.returns-then-from-text

@@ -1,7 +1,6 @@
 -- `name_at`: a quoted name, or one up to its comma. Assumes nothing.
 use native.Mathlib.Omega.{arith}
 use Rattle.sheet_reading.specs.Judged.{name_read, name_ends, name_stops, name_opened}
-use borrow.Author.Rules.{rules}
 use Rattle.sheet_reading.proofs.names.name_at.Goals as goal
 
 pub quoted_name-requires : goal.quoted_name-requires

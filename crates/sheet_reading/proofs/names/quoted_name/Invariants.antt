@@ -1,9 +1,7 @@
 -- `quoted_name`: the bytes up to i are the name, with this many doubled quotes. Assumes nothing.
 use Prim.Native.Nat.{◌-◌}
-use native.Mathlib.Omega.{arith}
 use lib.ListN.{length}
-use Rattle.sheet_reading.specs.Judged.{Quoting, quoting_first, quoting_more, quoting_read, quoting_stops, quoting_shut, quoting_ends}
-use borrow.Author.Rules.{rules}
+use Rattle.sheet_reading.specs.Judged.{Quoting}
 use Rattle.sheet_reading.proofs.names.quoted_name.Given as goal
 
 abbrev pub invariant-loop-i : goal.invariant-loop-i

@@ -1,15 +1,11 @@
 -- `digits`: all bytes passed are digits, and make the number. Assumes nothing.
-use mathlib.Core.Path.{◌≡◌, sym, ◌∙◌}
+use mathlib.Core.Path.{◌≡◌}
 use mathlib.Core.Bool.{true}
-use Prim.Native.Nat.{◌+◌, ◌-◌, ◌*◌, ◌≤◌}
-use native.Mathlib.Omega.{arith}
-use borrow.Author.Tests.{not-true, not-false}
+use Prim.Native.Nat.{◌-◌, ◌≤◌}
 use lib.ListN.{length}
 use Rattle.lists.specs.Basics.{every}
 use Rattle.sheets.specs.Grammar.{is_digit, worth}
-use Rattle.sheet_reading.specs.Runs.{between, every_empty, every_between, worth_none, worth_more}
-use Rattle.sheet_reading.specs.Judged.{digits_small, digits_large}
-use borrow.Author.Rules.{rules}
+use Rattle.sheet_reading.specs.Runs.{between}
 use Rattle.sheet_reading.proofs.numbers.digits.Given as goal
 
 abbrev pub invariant-loop-i : goal.invariant-loop-i

@@ -1,6 +1,5 @@
 -- `large`: too large, or as it is. Assumes nothing.
 use Rattle.sheet_reading.specs.Judged.{large_more, large_here, large_fits}
-use borrow.Author.Rules.{rules}
 use Rattle.sheet_reading.proofs.numbers.large.Goals as goal
 
 pub returns-then-end-from : goal.returns-then-end-from

@@ -1,7 +1,6 @@
 -- `number_at`: a quoted number, or digits. Assumes nothing.
 use native.Mathlib.Omega.{arith}
 use Rattle.sheet_reading.specs.Judged.{number_ends, number_opened, number_none, number_read}
-use borrow.Author.Rules.{rules}
 use Rattle.sheet_reading.proofs.numbers.number_at.Goals as goal
 
 pub returns-then-from-text : goal.returns-then-from-text

@@ -1,7 +1,6 @@
 -- `quoted_number`: digits, and a quote. Assumes nothing.
 use native.Mathlib.Omega.{arith}
 use Rattle.sheet_reading.specs.Judged.{quoted_number_read, quoted_number_empty, quoted_number_ends, quoted_number_stops}
-use borrow.Author.Rules.{rules}
 use Rattle.sheet_reading.proofs.numbers.quoted_number.Goals as goal
 
 pub returns-then-end-from : goal.returns-then-end-from

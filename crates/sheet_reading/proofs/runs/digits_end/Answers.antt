@@ -1,13 +1,8 @@
 -- `digits_end`: all bytes passed are digits. Assumes nothing.
-use mathlib.Core.Path.{◌≡◌, sym, ◌∙◌}
-use mathlib.Core.Bool.{true}
-use Prim.Native.Nat.{◌-◌, ◌≤◌}
+use mathlib.Core.Path.{sym, ◌∙◌}
 use native.Mathlib.Omega.{arith}
-use borrow.Author.Tests.{not-true, not-false}
-use lib.ListN.{length}
-use Rattle.lists.specs.Basics.{every}
 use Rattle.sheets.specs.Grammar.{is_digit}
-use Rattle.sheet_reading.specs.Runs.{between, every_empty, every_between}
+use Rattle.sheet_reading.specs.Runs.{every_empty, every_between}
 use borrow.Author.Rules.{rules}
 use Rattle.sheet_reading.proofs.runs.digits_end.Goals as goal
 

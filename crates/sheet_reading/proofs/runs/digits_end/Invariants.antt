@@ -1,14 +1,11 @@
 -- `digits_end`: all bytes passed are digits. Assumes nothing.
-use mathlib.Core.Path.{◌≡◌, sym, ◌∙◌}
+use mathlib.Core.Path.{◌≡◌}
 use mathlib.Core.Bool.{true}
 use Prim.Native.Nat.{◌-◌, ◌≤◌}
-use native.Mathlib.Omega.{arith}
-use borrow.Author.Tests.{not-true, not-false}
 use lib.ListN.{length}
 use Rattle.lists.specs.Basics.{every}
 use Rattle.sheets.specs.Grammar.{is_digit}
-use Rattle.sheet_reading.specs.Runs.{between, every_empty, every_between}
-use borrow.Author.Rules.{rules}
+use Rattle.sheet_reading.specs.Runs.{between}
 use Rattle.sheet_reading.proofs.runs.digits_end.Given as goal
 
 abbrev pub invariant-loop-i : goal.invariant-loop-i

@@ -1,7 +1,6 @@
 -- `put_digits`: the digits that are left to write, before those written, are all. Assumes nothing.
 use native.Mathlib.Omega.{arith}
-use Rattle.sheet_writing.specs.Writing.{Digits, digits_none, digits_more, digits_all}
-use borrow.Author.Rules.{rules}
+use Rattle.sheet_writing.specs.Writing.{digits_none, digits_more, digits_all}
 use Rattle.sheet_writing.proofs.decimals.put_digits.Goals as goal
 
 pub loop-left-init : goal.loop-left-init

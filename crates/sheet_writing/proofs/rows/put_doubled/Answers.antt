@@ -1,9 +1,7 @@
 -- `put_doubled`: the first i bytes of the name are written, quotes twice. Assumes nothing.
 use mathlib.Core.Path.{◌≡◌, refl, ◌∙◌}
-use Prim.Native.Nat.{◌≤◌, ◌-◌}
 use native.Mathlib.Omega.{arith}
-use lib.ListN.{length}
-use Rattle.sheet_writing.specs.Writing.{Doubling, doubling_none, doubling_more, double_fits}
+use Rattle.sheet_writing.specs.Writing.{doubling_none, doubling_more, double_fits}
 use borrow.Author.Rules.{rules}
 use Rattle.sheet_writing.proofs.rows.put_doubled.Goals as goal
 

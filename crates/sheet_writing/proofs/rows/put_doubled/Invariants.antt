@@ -1,10 +1,8 @@
 -- `put_doubled`: the first i bytes of the name are written, quotes twice. Assumes nothing.
-use mathlib.Core.Path.{◌≡◌, refl, ◌∙◌}
+use mathlib.Core.Path.{◌≡◌}
 use Prim.Native.Nat.{◌≤◌, ◌-◌}
-use native.Mathlib.Omega.{arith}
 use lib.ListN.{length}
-use Rattle.sheet_writing.specs.Writing.{Doubling, doubling_none, doubling_more, double_fits}
-use borrow.Author.Rules.{rules}
+use Rattle.sheet_writing.specs.Writing.{Doubling}
 use Rattle.sheet_writing.proofs.rows.put_doubled.Given as goal
 
 abbrev pub invariant-loop-i : goal.invariant-loop-i

@@ -7,7 +7,6 @@ use Rattle.sheets.specs.Grammar.{doubled}
 use Rattle.sheet_writing.specs.Scanning.{quote_if}
 use Rattle.sheets.specs.Laying.{three_pieces}
 use Rattle.sheet_writing.specs.Writing.{scan_within, scan_text, scan_size}
-use borrow.Author.Rules.{rules}
 use Rattle.sheet_writing.proofs.rows.put_name.Goals as goal
 
 pub put_quote-opened-requires : goal.put_quote-opened-requires

@@ -9,7 +9,6 @@ use Rattle.sheets.specs.Writer.{last_digits, digit_count, decimal}
 use Rattle.sheets.specs.Decimal.{length_last}
 use Rattle.sheets.specs.Laying.{four_pieces}
 use Rattle.sheet_writing.specs.Writing.{number_size}
-use borrow.Author.Rules.{rules}
 use Rattle.sheet_writing.proofs.rows.put_number.Goals as goal
 
 pub put_byte-first-requires : goal.put_byte-first-requires

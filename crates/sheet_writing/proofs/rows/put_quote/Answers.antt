@@ -2,7 +2,6 @@
 use native.Mathlib.Omega.{arith}
 use Rattle.sheet_writing.specs.Scanning.{quote_if}
 use Rattle.sheets.specs.Laying.{splice_none}
-use borrow.Author.Rules.{rules}
 use Rattle.sheet_writing.proofs.rows.put_quote.Goals as goal
 
 pub returns-then-plain : goal.returns-then-plain

@@ -5,7 +5,6 @@ use Rattle.sheets.specs.Grammar.{comma, cr, lf}
 use Rattle.sheets.specs.Writer.{first_name, name_text, decimal, row_text}
 use Rattle.sheets.specs.Laying.{two_pieces}
 use Rattle.sheet_writing.specs.Writing.{row_length}
-use borrow.Author.Rules.{rules}
 use Rattle.sheet_writing.proofs.rows.put_row.Goals as goal
 
 pub put_name-named-requires : goal.put_name-named-requires

@@ -1,7 +1,5 @@
 -- src/rows.rt:38:9
 use Rattle.sheet_writing.specs.Scanning.{quote_if}
-use Rattle.sheet_writing.proofs.rows.quote_cost.Reads as reads
-use Rattle.sheet_writing.proofs.rows.quote_cost.Lts as lts
 use Rattle.sheet_writing.proofs.rows.quote_cost.Goals as goal
 
 pub returns-then-plain : goal.returns-then-plain

@@ -1,7 +1,6 @@
 -- `row_room`: part by part, all of the row. Assumes nothing.
 use native.Mathlib.Omega.{arith}
 use Rattle.sheet_writing.specs.Scanning.{row_size, row_less, count_most}
-use borrow.Author.Rules.{rules}
 use Rattle.sheet_writing.proofs.rows.row_room.Goals as goal
 
 pub overflow_add-digit_count : goal.overflow_add-digit_count

@@ -1,6 +1,5 @@
 -- `ends_well`: the last byte, if there is one. Assumes nothing.
 use Rattle.sheet_writing.specs.Scanning.{ends_at, ends_empty}
-use borrow.Author.Rules.{rules}
 use Rattle.sheet_writing.proofs.scanning.ends_well.Goals as goal
 
 pub returns-then-n-eq0 : goal.returns-then-n-eq0

@@ -1,6 +1,5 @@
 -- `names_for`: as many zero bytes as names, the last of them at the end. Assumes nothing.
 use Rattle.sheets.specs.Writer.{names_for}
-use borrow.Author.Rules.{rules}
 use Rattle.sheet_writing.proofs.scanning.names_for.Goals as goal
 
 pub returns : goal.returns

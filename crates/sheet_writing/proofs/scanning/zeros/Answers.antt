@@ -1,10 +1,7 @@
 -- `zeros`: those counted, and those from i on. Assumes nothing.
-use mathlib.Core.Path.{◌≡◌}
-use Prim.Native.Nat.{◌≤◌, ◌-◌, ◌+◌}
 use native.Mathlib.Omega.{arith}
-use lib.ListN.{length, drop, get_or}
+use lib.ListN.{get_or}
 use Rattle.std.specs.Prelude.{nat_eq}
-use Rattle.sheets.specs.Writer.{zeros}
 use Rattle.sheet_writing.specs.Scanning.{one_small, zeros_more, zeros_all}
 use borrow.Author.Rules.{rules}
 use Rattle.sheet_writing.proofs.scanning.zeros.Goals as goal

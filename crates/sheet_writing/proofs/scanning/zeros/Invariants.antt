@@ -1,12 +1,8 @@
 -- `zeros`: those counted, and those from i on. Assumes nothing.
 use mathlib.Core.Path.{◌≡◌}
 use Prim.Native.Nat.{◌≤◌, ◌-◌, ◌+◌}
-use native.Mathlib.Omega.{arith}
-use lib.ListN.{length, drop, get_or}
-use Rattle.std.specs.Prelude.{nat_eq}
+use lib.ListN.{length, drop}
 use Rattle.sheets.specs.Writer.{zeros}
-use Rattle.sheet_writing.specs.Scanning.{one_small, zeros_more, zeros_all}
-use borrow.Author.Rules.{rules}
 use Rattle.sheet_writing.proofs.scanning.zeros.Given as goal
 
 abbrev pub invariant-loop-i : goal.invariant-loop-i

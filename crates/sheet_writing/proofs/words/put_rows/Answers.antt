@@ -1,15 +1,15 @@
 -- `put_rows`: as `writing::put_rows`, with identifiers as bytes. Assumes nothing.
 use mathlib.Core.Path.{◌≡◌, refl, ◌∙◌, ap}
-use Prim.Native.Nat.{◌≤◌, ◌-◌, ◌+◌}
+use Prim.Native.Nat.{◌+◌}
 use native.Mathlib.Omega.{arith}
-use lib.ListN.{length, drop, get_or}
+use lib.ListN.{drop, get_or}
 use Rattle.lists.specs.Splice.{part_from}
-use Rattle.sheets.specs.Writer.{first_name, row_text, rows_in, write_sheet, zeros}
+use Rattle.sheets.specs.Writer.{first_name, row_text, rows_in, write_sheet}
 use Rattle.sheets.specs.Calls.{sheet_text}
 use Rattle.protocol.specs.Bytes.{words_of}
 use Rattle.sheet_writing.specs.Carried.{length_words_of}
 use Rattle.sheet_writing.specs.Scanning.{scanned}
-use Rattle.sheet_writing.specs.Writing.{Written, written_none, written_room, written_more, written_all, step_within, step_zeros, step_rows, rows_out}
+use Rattle.sheet_writing.specs.Writing.{written_none, written_room, written_more, written_all, step_within, step_zeros, step_rows, rows_out}
 use borrow.Author.Rules.{rules}
 use Rattle.sheet_writing.proofs.words.put_rows.Goals as goal
 

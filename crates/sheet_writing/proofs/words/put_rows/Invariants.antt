@@ -1,16 +1,11 @@
 -- `put_rows`: as `writing::put_rows`, with identifiers as bytes. Assumes nothing.
-use mathlib.Core.Path.{◌≡◌, refl, ◌∙◌, ap}
-use Prim.Native.Nat.{◌≤◌, ◌-◌, ◌+◌}
-use native.Mathlib.Omega.{arith}
-use lib.ListN.{length, drop, get_or}
-use Rattle.lists.specs.Splice.{part_from}
-use Rattle.sheets.specs.Writer.{first_name, row_text, rows_in, write_sheet, zeros}
+use mathlib.Core.Path.{◌≡◌}
+use Prim.Native.Nat.{◌≤◌, ◌-◌}
+use lib.ListN.{length, drop}
+use Rattle.sheets.specs.Writer.{rows_in, write_sheet, zeros}
 use Rattle.sheets.specs.Calls.{sheet_text}
 use Rattle.protocol.specs.Bytes.{words_of}
-use Rattle.sheet_writing.specs.Carried.{length_words_of}
-use Rattle.sheet_writing.specs.Scanning.{scanned}
-use Rattle.sheet_writing.specs.Writing.{Written, written_none, written_room, written_more, written_all, step_within, step_zeros, step_rows, rows_out}
-use borrow.Author.Rules.{rules}
+use Rattle.sheet_writing.specs.Writing.{Written}
 use Rattle.sheet_writing.proofs.words.put_rows.Given as goal
 
 abbrev pub invariant-loop-i : goal.invariant-loop-i

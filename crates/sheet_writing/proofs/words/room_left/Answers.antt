@@ -1,11 +1,10 @@
 -- `room_left`: as `writing::room_left`, with identifiers as bytes. Assumes nothing.
 use mathlib.Core.Path.{◌≡◌, refl, ◌∙◌, ap, sym}
-use Prim.Native.Nat.{◌≤◌, ◌-◌, ◌+◌}
+use Prim.Native.Nat.{◌+◌}
 use native.Mathlib.Omega.{arith}
 use lib.ListN.{length, drop}
 use Rattle.lists.specs.Splice.{part_from}
-use Rattle.sheet_writing.specs.declared.Room.TheVariants.{Left}
-use Rattle.sheets.specs.Writer.{first_name, rows_in, write_sheet, zeros}
+use Rattle.sheets.specs.Writer.{first_name, rows_in, write_sheet}
 use Rattle.sheets.specs.Calls.{sheet_text}
 use Rattle.sheet_writing.specs.Scanning.{scanned, row_size, less_by, less_none}
 use Rattle.protocol.specs.Bytes.{words_of}

@@ -1,6 +1,5 @@
 -- `word_at` reads a word, lowest byte first. Assumes nothing.
 use Rattle.sheet_writing.specs.Carried.{word_at}
-use borrow.Author.Rules.{rules}
 use Rattle.sheet_writing.proofs.words.word_at.Goals as goal
 
 pub returns : goal.returns

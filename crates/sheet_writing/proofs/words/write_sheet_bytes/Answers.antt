@@ -1,13 +1,11 @@
 -- `write_sheet_bytes`: as `write_sheet`, with identifiers as bytes. Assumes nothing.
 use mathlib.Core.Path.{sym, ◌∙◌, ap}
-use borrow.Author.Tests.{not-true, not-false}
 use Rattle.sheets.specs.Writer.{names_for}
 use Rattle.sheets.specs.Calls.{write_bytes_call}
 use Rattle.sheet_writing.specs.Scanning.{less_left, less_short}
 use Rattle.protocol.specs.Bytes.{words_of}
 use Rattle.sheet_writing.specs.Carried.{length_words_of}
 use Rattle.sheet_writing.specs.Writing.{write_wrong, write_zeros, write_short, write_done}
-use borrow.Author.Rules.{rules}
 use Rattle.sheet_writing.proofs.words.write_sheet_bytes.Goals as goal
 
 pub returns-then-not-names_for : goal.returns-then-not-names_for

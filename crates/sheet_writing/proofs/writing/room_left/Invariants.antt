@@ -1,15 +1,11 @@
 -- `room_left`: what all rows leave is what those from i on leave of what is left. Assumes nothing.
-use mathlib.Core.Path.{◌≡◌, refl, ◌∙◌, ap, sym}
-use Prim.Native.Nat.{◌≤◌, ◌-◌, ◌+◌}
-use native.Mathlib.Omega.{arith}
+use mathlib.Core.Path.{◌≡◌}
+use Prim.Native.Nat.{◌≤◌, ◌-◌}
 use lib.ListN.{length, drop}
-use Rattle.lists.specs.Splice.{part_from}
 use Rattle.sheet_writing.specs.declared.Room.TheVariants.{Left}
-use Rattle.sheets.specs.Writer.{first_name, rows_in, write_sheet, zeros}
+use Rattle.sheets.specs.Writer.{rows_in, write_sheet, zeros}
 use Rattle.sheets.specs.Calls.{sheet_text}
-use Rattle.sheet_writing.specs.Scanning.{scanned, less_by, less_none}
-use Rattle.sheet_writing.specs.Writing.{step_within, step_zeros, step_room, rows_out}
-use borrow.Author.Rules.{rules}
+use Rattle.sheet_writing.specs.Scanning.{less_by}
 use Rattle.sheet_writing.proofs.writing.room_left.Given as goal
 
 abbrev pub invariant-loop-i : goal.invariant-loop-i

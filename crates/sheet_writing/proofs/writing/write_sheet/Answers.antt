@@ -1,9 +1,7 @@
 -- `write_sheet`: question by question, and the rows written where there is room. Assumes nothing.
 use mathlib.Core.Path.{sym, ◌∙◌}
-use borrow.Author.Tests.{not-true, not-false}
 use Rattle.sheet_writing.specs.Scanning.{less_left, less_short}
 use Rattle.sheet_writing.specs.Writing.{write_wrong, write_zeros, write_short, write_done}
-use borrow.Author.Rules.{rules}
 use Rattle.sheet_writing.proofs.writing.write_sheet.Goals as goal
 
 pub returns-then-not-names_for : goal.returns-then-not-names_for

@@ -1,6 +1,5 @@
 -- `settle`: each decision writes what its case of the definition says. Assumes nothing.
 use Rattle.steps.specs.Settle.{settled}
-use borrow.Author.Rules.{rules}
 use Rattle.steps.proofs.apply.settle.Goals as goal
 
 pub returns-in-Refuse : goal.returns-in-Refuse

@@ -1,6 +1,5 @@
 -- `settle_without`: the delivered message is taken out first, unless the decision refuses. Assumes nothing.
 use Rattle.steps.specs.Settle.{settled_without}
-use borrow.Author.Rules.{rules}
 use Rattle.steps.proofs.apply.settle_without.Goals as goal
 
 pub returns-in-Refuse : goal.returns-in-Refuse

@@ -5,9 +5,7 @@ use Rattle.protocol.specs.Record.{read}
 use Rattle.protocol.specs.Step.{asking}
 use Rattle.protocol.specs.Routing.{in_ring, onward}
 use Rattle.protocol.specs.Calls.{written}
-use borrow.Author.Tests.{not-true, not-false}
 use mathlib.Core.Path.{◌∙◌, ap, sym}
-use borrow.Author.Rules.{rules}
 use Rattle.steps.proofs.asks.ask.Goals as goal
 
 pub returns-then-w-x : goal.returns-then-w-x

@@ -10,7 +10,6 @@ use Rattle.protocol.specs.declared.Answer.TheVariants.{Quiet, Found}
 use Rattle.protocol.specs.Step.{asking}
 use Rattle.protocol.specs.Calls.{written}
 use mathlib.Core.Path.{◌∙◌, ap, sym}
-use borrow.Author.Rules.{rules}
 use Rattle.steps.proofs.asks.asking.Goals as goal
 
 pub returns-then-m-lt-MOST_MESSAGES : goal.returns-then-m-lt-MOST_MESSAGES

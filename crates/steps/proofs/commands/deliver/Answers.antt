@@ -7,9 +7,7 @@ use Rattle.protocol.specs.Kinds.{handle}
 use Rattle.protocol.specs.Record.{read, row, identifier, message, messages_in}
 use native.Mathlib.Omega.{arith}
 use Rattle.protocol.specs.Calls.{written}
-use borrow.Author.Tests.{not-true, not-false}
 use mathlib.Core.Path.{◌≡◌, ◌∙◌, ap, sym}
-use borrow.Author.Rules.{rules}
 use Rattle.steps.proofs.commands.deliver.Goals as goal
 
 pub returns-then-not-both : goal.returns-then-not-both

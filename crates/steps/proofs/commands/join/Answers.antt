@@ -9,9 +9,7 @@ use Rattle.protocol.specs.Names.{JOIN}
 use Rattle.protocol.specs.declared.Decision.TheVariants.{Send}
 use Rattle.protocol.specs.declared.Answer.TheVariants.{Quiet}
 use Rattle.protocol.specs.Calls.{written}
-use borrow.Author.Tests.{not-true, not-false}
 use mathlib.Core.Path.{◌≡◌, ◌∙◌, ap, sym}
-use borrow.Author.Rules.{rules}
 use Rattle.steps.proofs.commands.join.Goals as goal
 
 pub returns-then-not-both : goal.returns-then-not-both

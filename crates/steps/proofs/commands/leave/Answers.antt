@@ -8,9 +8,7 @@ use Rattle.protocol.specs.Names.{LEAVEREQ}
 use Rattle.protocol.specs.declared.Decision.TheVariants.{Send}
 use Rattle.protocol.specs.declared.Answer.TheVariants.{Quiet}
 use Rattle.protocol.specs.Calls.{written}
-use borrow.Author.Tests.{not-true, not-false}
 use mathlib.Core.Path.{◌≡◌, ◌∙◌, ap, sym}
-use borrow.Author.Rules.{rules}
 use Rattle.steps.proofs.commands.leave.Goals as goal
 
 pub returns-then-w-x : goal.returns-then-w-x

@@ -4,11 +4,8 @@ use Rattle.layout.specs.Questions.{record_1, record_2, record_rest}
 use Rattle.protocol.specs.Record.{read}
 use Rattle.protocol.specs.Step.{step}
 use Rattle.protocol.specs.Calls.{step_call, turned_down, written}
-use borrow.Author.Tests.{not-true, not-false}
 use mathlib.Core.Path.{◌∙◌, sym}
-use borrow.Author.Tests.{not-true, not-false}
 use Rattle.protocol.specs.Calls.{step_call}
-use borrow.Author.Rules.{rules}
 use Rattle.steps.proofs.perform.step.Goals as goal
 
 pub returns-then-w-lt-RECORD_WORDS : goal.returns-then-w-lt-RECORD_WORDS

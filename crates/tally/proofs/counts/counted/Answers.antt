@@ -1,6 +1,5 @@
 -- `counted`: the two definitions composed, as the two calls are. Assumes nothing.
 use Rattle.protocol.specs.Answers.{counted}
-use borrow.Author.Rules.{rules}
 use Rattle.tally.proofs.counts.counted.Goals as goal
 
 pub returns : goal.returns

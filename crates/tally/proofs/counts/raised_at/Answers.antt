@@ -1,6 +1,5 @@
 -- `raised_at`: the nine fields are what the nine calls of `count_at` give. Assumes nothing.
 use Rattle.protocol.specs.Answers.{raised_at}
-use borrow.Author.Rules.{rules}
 use Rattle.tally.proofs.counts.raised_at.Goals as goal
 
 pub returns : goal.returns

@@ -2,9 +2,7 @@
 use borrow.Author.Rules.{rules}
 use mathlib.Core.Path.{◌≡◌, sym, ◌∙◌, ap, ap₂}
 use mathlib.Core.Bool.{◌&&◌}
-use Prim.Native.Nat.{◌≤◌, ◌-◌}
 use native.Mathlib.Omega.{arith}
-use Rattle.std.specs.Prelude.{nat_eq}
 use Rattle.lists.specs.Basics.{every, table}
 use Rattle.lists.specs.Merge.{or_test, every_none, every_more}
 use Rattle.protocol.specs.Record.{message_start, message_from}

@@ -1,12 +1,8 @@
 -- `bad_messages`: what is merged is 0 where the messages before j are as they must be. Assumes nothing.
-use borrow.Author.Rules.{rules}
-use mathlib.Core.Path.{◌≡◌, sym, ◌∙◌, ap, ap₂}
-use mathlib.Core.Bool.{◌&&◌}
+use mathlib.Core.Path.{◌≡◌}
 use Prim.Native.Nat.{◌≤◌, ◌-◌}
-use native.Mathlib.Omega.{arith}
 use Rattle.std.specs.Prelude.{nat_eq}
 use Rattle.lists.specs.Basics.{every, table}
-use Rattle.lists.specs.Merge.{or_test, every_none, every_more}
 use Rattle.protocol.specs.Record.{message_start, message_from}
 use Rattle.protocol.specs.WellFormed.{message_ok}
 use Rattle.wellformed.proofs.content.bad_messages.Given as goal

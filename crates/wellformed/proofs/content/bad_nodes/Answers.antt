@@ -1,6 +1,5 @@
 -- `bad_nodes`: the failures of rows and identifiers, merged. Assumes nothing.
 use Rattle.wellformed.specs.Laws.{nodes_law}
-use borrow.Author.Rules.{rules}
 use Rattle.wellformed.proofs.content.bad_nodes.Goals as goal
 
 pub returns : goal.returns

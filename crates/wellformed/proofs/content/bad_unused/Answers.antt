@@ -1,6 +1,5 @@
 -- `bad_unused`: the words behind the rows and behind the messages, merged. Assumes nothing.
 use Rattle.wellformed.specs.Laws.{unused_law}
-use borrow.Author.Rules.{rules}
 use Rattle.wellformed.proofs.content.bad_unused.Goals as goal
 
 pub returns : goal.returns

@@ -5,7 +5,6 @@ use native.Mathlib.Omega.{arith}
 use lib.ListN.{length}
 use lib.Seq.{length-take-le}
 use Rattle.wellformed.specs.Laws.{one_length, zeros_law}
-use borrow.Author.Rules.{rules}
 use Rattle.wellformed.proofs.content.bad_zeros.Goals as goal
 
 pub slice_bounds-merged_halves-end : goal.slice_bounds-merged_halves-end

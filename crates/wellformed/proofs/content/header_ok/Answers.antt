@@ -1,6 +1,5 @@
 -- `header_ok`: form, n and m, each by its test. Assumes nothing.
 use Rattle.protocol.specs.WellFormed.{header_ok}
-use borrow.Author.Rules.{rules}
 use Rattle.wellformed.proofs.content.header_ok.Goals as goal
 
 pub returns : goal.returns

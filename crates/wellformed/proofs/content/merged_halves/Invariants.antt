@@ -1,11 +1,9 @@
 -- `merged_halves`: the words of both parts before i, merged. Assumes nothing.
-use borrow.Author.Rules.{rules}
-use mathlib.Core.Path.{◌≡◌, sym, ◌∙◌, ap}
+use mathlib.Core.Path.{◌≡◌}
 use Prim.Native.Nat.{◌≤◌, ◌-◌}
-use native.Mathlib.Omega.{arith}
 use lib.Bits.{bit_or}
 use lib.ListN.{length, get_or}
-use Rattle.lists.specs.Merge.{merged, merged_none, merged_more}
+use Rattle.lists.specs.Merge.{merged}
 use Rattle.wellformed.proofs.content.merged_halves.Given as goal
 
 abbrev pub invariant-loop-i : goal.invariant-loop-i

@@ -1,7 +1,6 @@
 -- `merged_words`: the words of a part before i, merged. Assumes nothing.
 use borrow.Author.Rules.{rules}
 use mathlib.Core.Path.{◌≡◌, sym, ◌∙◌, ap}
-use Prim.Native.Nat.{◌≤◌, ◌-◌}
 use native.Mathlib.Omega.{arith}
 use Rattle.lists.specs.Merge.{merged, merged_none, merged_more}
 use lib.ListN.{length, get_or}

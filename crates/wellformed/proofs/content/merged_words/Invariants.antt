@@ -1,9 +1,7 @@
 -- `merged_words`: the words of a part before i, merged. Assumes nothing.
-use borrow.Author.Rules.{rules}
-use mathlib.Core.Path.{◌≡◌, sym, ◌∙◌, ap}
+use mathlib.Core.Path.{◌≡◌}
 use Prim.Native.Nat.{◌≤◌, ◌-◌}
-use native.Mathlib.Omega.{arith}
-use Rattle.lists.specs.Merge.{merged, merged_none, merged_more}
+use Rattle.lists.specs.Merge.{merged}
 use lib.ListN.{length, get_or}
 use Rattle.wellformed.proofs.content.merged_words.Given as goal
 

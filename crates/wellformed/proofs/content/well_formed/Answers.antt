@@ -1,10 +1,9 @@
 -- `well_formed`: header, rows, messages and unused words in turn. Assumes nothing.
 use mathlib.Core.Path.{◌≡◌, refl, sym, ◌∙◌}
 use mathlib.Core.Bool.{true}
-use borrow.Author.Tests.{eq-eqb, ne_eqb, not-true, not-false}
+use borrow.Author.Tests.{eq-eqb, ne_eqb}
 use Rattle.protocol.specs.WellFormed.{header_ok}
 use Rattle.wellformed.specs.Laws.{fails_header, fails_nodes, fails_messages, passes_messages, nodes_few, messages_few}
-use borrow.Author.Rules.{rules}
 use Rattle.wellformed.proofs.content.well_formed.Goals as goal
 
 pub returns-then-not-header_ok : goal.returns-then-not-header_ok

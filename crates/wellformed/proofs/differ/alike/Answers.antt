@@ -1,6 +1,5 @@
 -- `alike`: whether two of four identifiers are equal. Assumes nothing.
 use Rattle.lists.specs.Merge.{all_unlike, unlike}
-use borrow.Author.Rules.{rules}
 use Rattle.wellformed.proofs.differ.alike.Goals as goal
 
 pub returns : goal.returns

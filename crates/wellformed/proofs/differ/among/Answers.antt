@@ -1,6 +1,5 @@
 -- `among`: whether an identifier is one of four. Assumes nothing.
 use Rattle.lists.specs.Merge.{unlike_all, unlike}
-use borrow.Author.Rules.{rules}
 use Rattle.wellformed.proofs.differ.among.Goals as goal
 
 pub returns : goal.returns

@@ -1,10 +1,9 @@
 -- `any_among`: the failures of the first i identifiers against four others, merged. Assumes nothing.
 use borrow.Author.Rules.{rules}
 use mathlib.Core.Path.{◌≡◌, sym, ◌∙◌, ap}
-use Prim.Native.Nat.{◌≤◌, ◌-◌}
 use native.Mathlib.Omega.{arith}
 use lib.ListN.{get_or}
-use Rattle.lists.specs.Basics.{if◌then◌else◌}
+use Rattle.lists.specs.Basics.{when◌then◌else◌}
 use Rattle.lists.specs.Merge.{merged, merged_none, merged_more, unlike_all}
 use Rattle.wellformed.proofs.differ.any_among.Goals as goal
 
@@ -18,4 +17,4 @@ pub returns : goal.returns
 returns c =
     let a = c.args in
     let e : c.loop-j.j ≡ a.i = omega arith in
-    c.loop-j.invariant.1 ∙ ap (λ k. merged k (λ j. if unlike_all a.a a.b a.c a.d (get_or a.ids.now j 0) then 0 else 1)) e
+    c.loop-j.invariant.1 ∙ ap (λ k. merged k (λ j. when unlike_all a.a a.b a.c a.d (get_or a.ids.now j 0) then 0 else 1)) e

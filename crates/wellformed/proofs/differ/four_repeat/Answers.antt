@@ -1,7 +1,6 @@
 -- `four_repeat`: four more identifiers, against those before them and among each other. Assumes nothing.
 use lib.ListN.{get_or}
 use Rattle.lists.specs.Merge.{merged_four}
-use borrow.Author.Rules.{rules}
 use Rattle.wellformed.proofs.differ.four_repeat.Goals as goal
 
 pub returns : goal.returns

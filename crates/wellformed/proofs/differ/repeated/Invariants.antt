@@ -1,13 +1,9 @@
 -- `repeated`: what is merged is 0 where the identifiers before i differ, in steps of four and then of one. Assumes nothing.
-use borrow.Author.Rules.{rules}
-use mathlib.Core.Path.{◌≡◌, sym, ◌∙◌, ap}
-use mathlib.Core.Bool.{◌&&◌}
+use mathlib.Core.Path.{◌≡◌}
 use Prim.Native.Nat.{◌≤◌, ◌-◌}
-use native.Mathlib.Omega.{arith}
 use Rattle.std.specs.Prelude.{nat_eq}
 use lib.ListN.{get_or}
 use Rattle.lists.specs.Basics.{distinct, table}
-use Rattle.lists.specs.Merge.{or_test, distinct_none, merged_next}
 use Rattle.wellformed.proofs.differ.repeated.Given as goal
 
 abbrev pub invariant-loop-i : goal.invariant-loop-i

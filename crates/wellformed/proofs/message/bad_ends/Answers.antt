@@ -3,7 +3,6 @@ use mathlib.Core.Path.{◌∙◌, ap}
 use mathlib.Core.Bool.{◌&&◌}
 use Rattle.std.specs.Prelude.{nat_lt}
 use Rattle.wellformed.specs.Laws.{ends_law}
-use borrow.Author.Rules.{rules}
 use Rattle.wellformed.proofs.message.bad_ends.Goals as goal
 
 pub returns : goal.returns

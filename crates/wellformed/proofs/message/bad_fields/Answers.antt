@@ -1,9 +1,8 @@
 -- `bad_fields`: what a message of its kind must not have, merged. Assumes nothing.
 use mathlib.Core.Path.{◌∙◌, ap}
 use mathlib.Core.Bool.{not}
-use Rattle.lists.specs.Basics.{if◌then◌else◌}
+use Rattle.lists.specs.Basics.{when◌then◌else◌}
 use Rattle.wellformed.specs.Laws.{fields_law}
-use borrow.Author.Rules.{rules}
 use Rattle.wellformed.proofs.message.bad_fields.Goals as goal
 
 pub returns : goal.returns
@@ -11,7 +10,7 @@ returns c =
     let a = c.args in
     let names = c.names_node-names.ensures in
     fields_law a.n a.asked a.m _ _ _ _ _ _ c.failure.ensures c.failure-2.ensures
-    (c.when.ensures ∙ ap (λ z. if not z then a.m.a else 0) names)
+    (c.when.ensures ∙ ap (λ z. when not z then a.m.a else 0) names)
     c.when-2.ensures
-    (c.when-3.ensures ∙ ap (λ z. if z then c.failure-2.result else 0) names)
+    (c.when-3.ensures ∙ ap (λ z. when z then c.failure-2.result else 0) names)
     c.when-4.ensures

@@ -1,6 +1,5 @@
 -- `bad_message`: ends and fields, merged. Assumes nothing.
 use Rattle.wellformed.specs.Laws.{message_law}
-use borrow.Author.Rules.{rules}
 use Rattle.wellformed.proofs.message.bad_message.Goals as goal
 
 pub returns : goal.returns

@@ -1,6 +1,5 @@
 -- `names_node`: the kinds whose a names a node. Assumes nothing.
 use Rattle.protocol.specs.WellFormed.{names_node}
-use borrow.Author.Rules.{rules}
 use Rattle.wellformed.proofs.message.names_node.Goals as goal
 
 pub returns : goal.returns

@@ -1,6 +1,5 @@
 -- `flag_ok`: flag, oldpred and state by their tests. Assumes nothing.
 use Rattle.protocol.specs.WellFormed.{flag_ok}
-use borrow.Author.Rules.{rules}
 use Rattle.wellformed.proofs.row.flag_ok.Goals as goal
 
 pub returns : goal.returns

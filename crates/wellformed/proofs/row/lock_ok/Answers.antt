@@ -1,6 +1,5 @@
 -- `lock_ok`: the state decides which locks there may be. Assumes nothing.
 use Rattle.protocol.specs.WellFormed.{lock_ok}
-use borrow.Author.Rules.{rules}
 use Rattle.wellformed.proofs.row.lock_ok.Goals as goal
 
 pub returns : goal.returns

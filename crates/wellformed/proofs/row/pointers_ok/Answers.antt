@@ -1,6 +1,5 @@
 -- `pointers_ok`: the state decides which pointers there may be. Assumes nothing.
 use Rattle.protocol.specs.WellFormed.{pointers_ok}
-use borrow.Author.Rules.{rules}
 use Rattle.wellformed.proofs.row.pointers_ok.Goals as goal
 
 pub returns : goal.returns

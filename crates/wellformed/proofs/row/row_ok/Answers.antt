@@ -1,6 +1,5 @@
 -- `row_ok`: the tests of the fields, merged. Assumes nothing.
 use Rattle.protocol.specs.WellFormed.{row_ok}
-use borrow.Author.Rules.{rules}
 use Rattle.wellformed.proofs.row.row_ok.Goals as goal
 
 pub returns : goal.returns
