@@ -1,9 +1,6 @@
 -- `run`: turn by turn what is held is of what was read; it ends when its turns are used up. Assumes nothing.
-use mathlib.Core.Path.{◌≡◌, refl, ◌∙◌}
-use Prim.Native.Nat.{◌≤◌}
+use mathlib.Core.Path.{refl, ◌∙◌}
 use native.Mathlib.Omega.{arith}
-use lib.ListN.{length}
-use borrow.Author.Rules.{rules}
 use Rattle.hubsheet.proofs.run.Goals as goal
 
 pub loop-turns-init : goal.loop-turns-init

@@ -2,7 +2,6 @@
 use mathlib.Core.Path.{refl}
 use Rattle.console.specs.Arrivals.{arrived}
 use Rattle.hubsheet.specs.Held.{taken_bytes, taken_end, taken_failed}
-use borrow.Author.Rules.{rules}
 use Rattle.hubsheet.proofs.take_some.Goals as goal
 
 pub slice_bounds-feed-end : goal.slice_bounds-feed-end

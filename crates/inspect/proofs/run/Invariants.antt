@@ -1,5 +1,4 @@
 -- The turns are counted down. Assumes nothing.
-use borrow.Author.Rules.{rules}
 use mathlib.Core.Path.{◌≡◌}
 use lib.ListN.{length}
 use Rattle.inspect.proofs.run.Given as goal

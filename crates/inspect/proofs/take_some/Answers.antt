@@ -1,6 +1,5 @@
 -- What the read brought is a part of the block. Assumes nothing.
 use Rattle.console.specs.Arrivals.{arrived}
-use borrow.Author.Rules.{rules}
 use Rattle.inspect.proofs.take_some.Goals as goal
 
 pub slice_bounds-take_bytes-end : goal.slice_bounds-take_bytes-end

@@ -1,10 +1,8 @@
 -- `put_founding`: the digits of the first i identifiers are written. Assumes nothing.
-use mathlib.Core.Path.{◌≡◌, refl, ◌∙◌}
+use mathlib.Core.Path.{refl, ◌∙◌}
 use native.Mathlib.Omega.{arith}
-use Rattle.lists.specs.Splice.{splice}
 use Rattle.protocol.specs.Frames.{print2}
-use Prim.Native.Nat.{◌≤◌, ◌-◌}
-use lib.ListN.{length, take, get_or}
+use lib.ListN.{get_or}
 use Rattle.hubsheet.specs.Line.{put_piece, length_print2, length_print8, eights, eights_put, founding_length, founding_put}
 use Rattle.sheets.specs.Laying.{splice_none}
 use borrow.Author.Rules.{rules}

@@ -6,7 +6,6 @@ use native.Mathlib.Omega.{arith}
 use Rattle.std.specs.Prelude.{nat_le}
 use Rattle.protocol.specs.Frames.{refusal_text, print2}
 use Rattle.hubsheet.specs.Line.{refusal_line, rows_line, printed_as, line_within, line_rows, line_number}
-use borrow.Author.Rules.{rules}
 use Rattle.hubsheet.proofs.frame.put_line.Goals as goal
 
 pub returns-in-Within : goal.returns-in-Within

@@ -5,7 +5,6 @@ use native.Mathlib.Omega.{arith}
 use Rattle.protocol.specs.Frames.{print2, refusal_text}
 use Rattle.hubsheet.specs.Line.{refusal_line, put_piece}
 use Rattle.sheets.specs.Laying.{laid_splice, three_pieces}
-use borrow.Author.Rules.{rules}
 use Rattle.hubsheet.proofs.frame.put_refusal.Goals as goal
 
 pub returns : goal.returns

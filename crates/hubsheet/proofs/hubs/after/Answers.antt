@@ -1,6 +1,5 @@
 -- `after`: by the effect. Assumes nothing.
 use Rattle.hubsheet.specs.Held.{after_spec}
-use borrow.Author.Rules.{rules}
 use Rattle.hubsheet.proofs.hubs.after.Goals as goal
 
 pub returns-in-Quiet : goal.returns-in-Quiet

@@ -1,11 +1,8 @@
 -- `feed`: what is held is of the bytes up to i. Assumes nothing.
-use mathlib.Core.Path.{◌≡◌, refl, sym, ap, ◌∙◌, subst}
+use mathlib.Core.Path.{◌≡◌}
 use Prim.Native.Nat.{◌-◌, ◌≤◌}
-use native.Mathlib.Omega.{arith}
 use lib.ListN.{length, take}
-use lib.Seq.{take-length}
-use Rattle.hubsheet.specs.Held.{Feeds, feeds_none, feeds_more, after_small}
-use borrow.Author.Rules.{rules}
+use Rattle.hubsheet.specs.Held.{Feeds}
 use Rattle.hubsheet.proofs.hubs.feed.Given as goal
 
 abbrev pub invariant-loop-i : goal.invariant-loop-i

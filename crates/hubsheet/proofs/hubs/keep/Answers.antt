@@ -2,7 +2,6 @@
 use mathlib.Core.Path.{sym, ap}
 use lib.ListN.{set}
 use lib.Seq.{set_out}
-use borrow.Author.Rules.{rules}
 use Rattle.hubsheet.proofs.hubs.keep.Goals as goal
 
 pub returns-then-identifiers-row : goal.returns-then-identifiers-row

@@ -1,6 +1,5 @@
 -- `keep_by`: a number at the end of a row. Assumes nothing.
 use Rattle.hubsheet.specs.Held.{kept_by}
-use borrow.Author.Rules.{rules}
 use Rattle.hubsheet.proofs.hubs.keep_by.Goals as goal
 
 pub returns-in-Quiet : goal.returns-in-Quiet

@@ -1,6 +1,5 @@
 use Rattle.sheets.specs.Reader.{digits}
 use Rattle.lists.specs.Basics.{when◌then◌else◌}
-use borrow.Author.Rules.{rules}
 use Rattle.hubsheet.proofs.places.digits.Goals as goal
 
 pub returns-then-is_digit : goal.returns-then-is_digit

@@ -1,5 +1,4 @@
 use Rattle.sheets.specs.Reader.{ending}
-use borrow.Author.Rules.{rules}
 use Rattle.hubsheet.proofs.places.ending.Goals as goal
 
 pub returns-in-Start : goal.returns-in-Start

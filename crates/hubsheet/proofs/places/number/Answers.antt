@@ -1,7 +1,6 @@
 use Rattle.sheets.specs.Reader.{number}
 use Rattle.lists.specs.Basics.{when◌then◌else◌}
 use borrow.Author.Tests.{eq-eqb, ne_eqb}
-use borrow.Author.Rules.{rules}
 use Rattle.hubsheet.proofs.places.number.Goals as goal
 
 pub returns-then-b-eq-QUOTE : goal.returns-then-b-eq-QUOTE

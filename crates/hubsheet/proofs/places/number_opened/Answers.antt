@@ -1,6 +1,5 @@
 use Rattle.sheets.specs.Reader.{next}
 use Rattle.lists.specs.Basics.{when◌then◌else◌}
-use borrow.Author.Rules.{rules}
 use Rattle.hubsheet.proofs.places.number_opened.Goals as goal
 
 pub returns-then-is_digit : goal.returns-then-is_digit

@@ -1,7 +1,6 @@
 use Rattle.sheets.specs.Reader.{unquoted}
 use Rattle.lists.specs.Basics.{when◌then◌else◌}
 use borrow.Author.Tests.{eq-eqb, ne_eqb}
-use borrow.Author.Rules.{rules}
 use Rattle.hubsheet.proofs.places.unquoted.Goals as goal
 
 pub returns-then-b-eq-COMMA : goal.returns-then-b-eq-COMMA

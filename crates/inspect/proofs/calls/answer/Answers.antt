@@ -1,9 +1,7 @@
 -- The words lent are a part of the record, and a line that founds has the digits of its identifiers. Assumes nothing.
-use native.Mathlib.Omega.{arith}
 use mathlib.Core.Path.{sym}
 use lib.Seq.{length-take-le}
 use Rattle.frames.specs.Founding.{decoded_fits}
-use borrow.Author.Rules.{rules}
 use Rattle.inspect.proofs.calls.answer.Goals as goal
 
 pub slice_bounds-fresh_ring-end-in-Founding : goal.slice_bounds-fresh_ring-end-in-Founding

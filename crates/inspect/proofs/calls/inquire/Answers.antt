@@ -1,8 +1,6 @@
 -- The words lent are a part of the record. Assumes nothing.
-use native.Mathlib.Omega.{arith}
 use mathlib.Core.Path.{sym}
 use lib.Seq.{length-take-le}
-use borrow.Author.Rules.{rules}
 use Rattle.inspect.proofs.calls.inquire.Goals as goal
 
 pub slice_bounds-told-end-2 : goal.slice_bounds-told-end-2

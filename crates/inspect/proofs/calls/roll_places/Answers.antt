@@ -1,7 +1,6 @@
 -- The places lent are a part of the output. Assumes nothing.
 use mathlib.Core.Path.{sym}
 use lib.Seq.{length-take-le}
-use borrow.Author.Rules.{rules}
 use Rattle.inspect.proofs.calls.roll_places.Goals as goal
 
 pub slice_bounds-roll_into-end-2 : goal.slice_bounds-roll_into-end-2

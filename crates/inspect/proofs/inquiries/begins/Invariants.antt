@@ -1,5 +1,4 @@
 -- The bytes before i are equal. Assumes nothing.
-use borrow.Author.Rules.{rules}
 use Prim.Native.Nat.{◌≤◌, ◌-◌}
 use lib.ListN.{length}
 use Rattle.inspect.proofs.inquiries.begins.Given as goal

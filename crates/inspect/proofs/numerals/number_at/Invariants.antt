@@ -1,5 +1,4 @@
 -- The digits before `end` are read. Assumes nothing.
-use borrow.Author.Rules.{rules}
 use Prim.Native.Nat.{◌≤◌, ◌-◌}
 use lib.ListN.{length}
 use Rattle.inspect.proofs.numerals.number_at.Given as goal

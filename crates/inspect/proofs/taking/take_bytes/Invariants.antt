@@ -1,9 +1,7 @@
 -- The lines before `at` are answered. Assumes nothing.
-use borrow.Author.Rules.{rules}
 use mathlib.Core.Path.{◌≡◌}
 use Prim.Native.Nat.{◌≤◌, ◌-◌}
 use lib.ListN.{length}
-use native.Mathlib.Omega.{arith}
 use Rattle.inspect.proofs.taking.take_bytes.Given as goal
 
 abbrev pub invariant-loop-turn : goal.invariant-loop-turn

@@ -2,7 +2,6 @@
 use native.Mathlib.Omega.{arith}
 use mathlib.Core.Path.{sym}
 use lib.Seq.{length-take-le}
-use borrow.Author.Rules.{rules}
 use Rattle.inspect.proofs.taking.take_line.Goals as goal
 
 pub slice_bounds-answer_line-end-then-g : goal.slice_bounds-answer_line-end-then-g

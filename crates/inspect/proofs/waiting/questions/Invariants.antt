@@ -1,5 +1,4 @@
 -- The messages before i are counted. Assumes nothing.
-use borrow.Author.Rules.{rules}
 use Prim.Native.Nat.{◌≤◌, ◌-◌}
 use lib.ListN.{length}
 use Rattle.inspect.proofs.waiting.questions.Given as goal

@@ -1,5 +1,5 @@
 -- The bytes before i are looked at. Assumes nothing.
-use Rattle.std.proofs.Common.{◌≡◌, ◌-◌, ◌≤◌, length, rules}
+use Rattle.std.proofs.Common.{◌≡◌, ◌-◌, ◌≤◌, length}
 use Rattle.wording.proofs.names.name.Given as goal
 
 abbrev pub invariant-loop-i : goal.invariant-loop-i

@@ -1,5 +1,5 @@
 -- The places before i are shown. Assumes nothing.
-use Rattle.std.proofs.Common.{◌≡◌, ◌-◌, ◌≤◌, length, rules}
+use Rattle.std.proofs.Common.{◌≡◌, ◌-◌, ◌≤◌, length}
 use Rattle.wording.proofs.show.places.Given as goal
 
 abbrev pub invariant-loop-i : goal.invariant-loop-i

@@ -1,5 +1,5 @@
 -- The power of ten falls until it is 0. Assumes nothing.
-use Rattle.std.proofs.Common.{◌≡◌, length, rules}
+use Rattle.std.proofs.Common.{◌≡◌, length}
 use Rattle.wording.proofs.text.number.Given as goal
 
 abbrev pub invariant-loop-power : goal.invariant-loop-power

@@ -1,5 +1,5 @@
 -- The bytes before i are put. Assumes nothing.
-use Rattle.std.proofs.Common.{◌≡◌, ◌-◌, ◌≤◌, length, rules}
+use Rattle.std.proofs.Common.{◌≡◌, ◌-◌, ◌≤◌, length}
 use Rattle.wording.proofs.text.say.Given as goal
 
 abbrev pub invariant-loop-i : goal.invariant-loop-i
