@@ -12,11 +12,11 @@ use Rattle.hubsheet.proofs.frame.put_rows.Goals as goal
 
 pub returns-then-not-fits : goal.returns-then-not-fits
 unfolding rows_line refusal_line refusal_text print2 require when◌then◌else◌
-returns-then-not-fits c = simp (c.if-not-fits.true) (search rules, c.put_refusal.ensures.0, c.put_refusal.ensures.1)
+returns-then-not-fits c = search rules
 
 pub returns-then-rows-gt64 : goal.returns-then-rows-gt64
 unfolding rows_line refusal_line refusal_text print2 require when◌then◌else◌
-returns-then-rows-gt64 c = simp (c.if-not-fits.false, lt-leb c.args.rows 64 c.if-rows-gt64.true) (search rules, c.put_refusal-then-rows-gt64.ensures.0, c.put_refusal-then-rows-gt64.ensures.1)
+returns-then-rows-gt64 c = search (rules, lt-leb)
 
 pub slice_bounds-put_founding-end : goal.slice_bounds-put_founding-end
 slice_bounds-put_founding-end c = sym (length-take-le _ _ (omega arith))
