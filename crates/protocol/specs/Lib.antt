@@ -1,4 +1,5 @@
 pub mod Names
+pub mod Refusals
 pub mod Record
 pub mod WellFormed
 pub mod Fresh

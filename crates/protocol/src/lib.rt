@@ -4,8 +4,11 @@
 pub mod answer_kinds;
 pub mod form;
 pub mod kinds;
+pub mod refusal;
 pub mod refusals;
 pub mod states;
+
+pub use refusal::Refusal;
 
 // A node of the ring (document 01: a hub) has a number below the node count, and this row of seven
 // words (document 01: hub row).
