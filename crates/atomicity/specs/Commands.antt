@@ -15,6 +15,7 @@ use Rattle.lists.specs.Tests.{and_left, and_right, →eqb}
 use Rattle.protocol.specs.declared.Row.{Row}
 use Rattle.protocol.specs.declared.Answer.TheVariants.{Quiet, Found}
 use Rattle.protocol.specs.declared.Decision.TheVariants.{Send}
+use Rattle.std.specs.Prelude.{Ok}
 use Rattle.protocol.specs.Names.{INSIDE, JOINING, OUTSIDE, WANTING_TO_LEAVE}
 use Rattle.protocol.specs.Record.{round, State, count, row}
 use Rattle.protocol.specs.Step as step
@@ -125,7 +126,7 @@ module _ (id : ℕ → ℕ) (small : (h : ℕ) → id h < round) (c : ℕ) (s : 
   put : (x : ℕ) (v : Row) (u : Msg) → v.identifier ≡ (row s x).identifier
       → Inv round id c (hubs (set s.rows x v) (mark members)) [] (G.ms ++ (u ∷ []))
       → ((k : ℕ) → waits k u ≡ 0) → asks u ≡ 0 → Numbers c u
-      → Ok s.asked (conclude s x (Send v (erase u) Quiet))
+      → Ok s.asked (conclude s x (Ok (Send v (erase u) Quiet)))
   unfolding conclude
   put x v u e i tk ln nu = fine_accepted id c members ks s.asked true Quiet _ (record {
     named = tt;

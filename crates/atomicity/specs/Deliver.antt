@@ -17,6 +17,7 @@ use Rattle.protocol.specs.declared.Answer.{Answer}
 use Rattle.protocol.specs.declared.Answer.TheVariants.{Quiet, Found, Entered, Gone, JoinTurnedAway, LeaveTurnedAway, Joined, Left}
 use Rattle.protocol.specs.declared.Decision.{Decision}
 use Rattle.protocol.specs.declared.Decision.TheVariants.{Reply, Send}
+use Rattle.std.specs.Prelude.{Ok}
 use Rattle.protocol.specs.Names.{INSIDE, JOINING, LEAVING, WANTING_TO_LEAVE}
 use Rattle.protocol.specs.Record.{round, State, outside}
 use Rattle.protocol.specs.Routing.{in_ring, responsible}
@@ -86,7 +87,7 @@ module _ (id : ℕ → ℕ) (small : (h : ℕ) → id h < round) (c : ℕ) (inj 
     reply : (a : Answer) → Names id members a
         → Inv round id c (hubs (set rows (to m) v) (mark (after_answer members a))) [] ((s ++ t) ++ [])
         → ((k : ℕ) → times (found_ticket a ++ ks) k + 0 ≡ times ks k + waits k m) → length (found_ticket a ++ ks) + 0 ≡ length ks + asks m
-        → Ok (to m) (Reply v a)
+        → Ok (to m) (Ok (Reply v a))
     unfolding conclude
     reply a nm i tk ln = fine_accepted id c members ks asked false a _ (record {
       named = nm;
@@ -97,7 +98,7 @@ module _ (id : ℕ → ℕ) (small : (h : ℕ) → id h < round) (c : ℕ) (inj 
     send : (a : Answer) (u : Msg) (w : Message) → w ≡ erase u → Names id members a
         → Inv round id c (hubs (set rows (to m) v) (mark (after_answer members a))) [] ((s ++ t) ++ (u ∷ []))
         → ((k : ℕ) → times (found_ticket a ++ ks) k + (waits k u + 0) ≡ times ks k + waits k m) → length (found_ticket a ++ ks) + (asks u + 0) ≡ length ks + asks m
-        → Numbers c u → Ok (to m) (Send v w a)
+        → Numbers c u → Ok (to m) (Ok (Send v w a))
     unfolding conclude
     send a u w e nm i tk ln nu = fine_accepted id c members ks asked false a _ (record {
       named = nm;
@@ -256,7 +257,7 @@ module _ (id : ℕ → ℕ) (small : (h : ℕ) → id h < round) (c : ℕ) (inj 
       led1 : (row_of rows y).state ≢ LEAVING → mark members y ≡ 1
       led1 ne = (H.inv.member y).inside w.0 (omega (arith, w.1))
 
-      pass : (z : ℕ) → Way S y z [] → JOINING ≤ (row_of rows z).state → Ok y (Send (row_of rows y) (question y z v k (grown (erase m))) Quiet)
+      pass : (z : ℕ) → Way S y z [] → JOINING ≤ (row_of rows z).state → Ok y (Ok (Send (row_of rows y) (question y z v k (grown (erase m))) Quiet))
       pass z wy l = send m H (row_of rows y) refl Quiet (lookup y z v k (grown (erase m))) _ refl tt
           (unchanged y (calm_sent (take_out s m t cl H.inv)
           (record { same = λ z. refl; fresh = (tt, tt); nojoin = no_join (lookup y z v k (grown (erase m))) (λ e. omega arith); fifo = ((λ e. wy), tt) })))
@@ -292,13 +293,13 @@ module _ (id : ℕ → ℕ) (small : (h : ℕ) → id h < round) (c : ℕ) (inj 
       ca : a < c
       ca = H.inv.below a (omega (arith, L.0))
 
-      again : Ok y (Send (row_of rows y) (note 3 y a 0) Quiet)
+      again : Ok y (Ok (Send (row_of rows y) (note 3 y a 0) Quiet))
       again = send m H (row_of rows y) refl Quiet (join_retry y a) _ refl tt
           (unchanged y (calm_sent (take_out s m t cl H.inv)
           (record { same = λ z. omega arith; fresh = (L, tt); nojoin = no_join (join_retry y a) (λ e. omega arith); fifo = ((λ e. absurd e), tt) })))
           (λ i. omega arith) (omega arith) (nums (join_retry y a) N.dst ca (λ e. omega arith))
 
-      pass : (z : ℕ) → JOINING ≤ (row_of rows z).state → Ok y (Send (row_of rows y) (note 2 y z a) Quiet)
+      pass : (z : ℕ) → JOINING ≤ (row_of rows z).state → Ok y (Ok (Send (row_of rows y) (note 2 y z a) Quiet))
       pass z l = send m H (row_of rows y) refl Quiet (join y z a) _ refl tt
           (unchanged y (calm_sent (take_out s m t cl H.inv)
           (record { same = λ z. omega arith; fresh = (L, tt); nojoin = no_join (join y z a) (λ e. omega arith); fifo = ((λ e. absurd e), tt) })))

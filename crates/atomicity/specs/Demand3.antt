@@ -5,8 +5,8 @@ use Rattle.std.specs.Prelude.{◌≡◌, true, List, [], ◌∷◌, ◌++◌, �
 use Rattle.lists.specs.Basics.{Mem, All, times}
 use Rattle.protocol.specs.declared.Message.{Message}
 use Rattle.protocol.specs.declared.Answer.TheVariants.{Quiet, Found}
-use Rattle.protocol.specs.declared.Outcome.{Outcome}
-use Rattle.protocol.specs.declared.Outcome.TheVariants.{Refused, Answered}
+use Rattle.protocol.specs.Outcomes.{Outcome}
+use Rattle.std.specs.Prelude.{Err, Ok}
 use Rattle.protocol.specs.Record.{round, State, read}
 use Rattle.protocol.specs.Calls.{Called, step_call, fresh_by_call}
 use Rattle.protocol.specs.Membership.{founding_members, after_outcome, node, owner_among, holds, waiting, ticket_of, accepted_ask}
@@ -73,7 +73,7 @@ pub record Founded (engine : Engine) (ids : List ℕ) (founder : ℕ) (events : 
   pub calls : List Call
   pub identifiers : All Word ids
   pub commands : All ThreeWords calls
-  pub accepted : (engine.founds slice ids founder).outcome ≡ Answered Quiet
+  pub accepted : (engine.founds slice ids founder).outcome ≡ Ok Quiet
   pub happened : events ≡ history engine (engine.founds slice ids founder).slice calls
   pub is : w ≡ record_after engine (engine.founds slice ids founder).slice calls
 
@@ -91,7 +91,7 @@ pub record Claims (engine : Engine) (ids : List ℕ) (founder : ℕ) (events : L
       → owner_among ids (members_after (founding_members founder) events) v ≡ node hub
   -- (b) Each found answer names the ledger's owner of its number at that call: the ledger that the calls before it left.
   pub found : (before : List Event) (e : Event) (after : List Event) → events ≡ before ++ (e ∷ after)
-      → (hub number ticket hops : ℕ) → e.outcome ≡ Answered (Found hub number ticket hops)
+      → (hub number ticket hops : ℕ) → e.outcome ≡ Ok (Found hub number ticket hops)
       → owner_among ids (members_after (founding_members founder) before) number ≡ node hub
   -- (c) Questions accepted = questions answered + questions waiting.
   pub questions : questions_accepted events ≡ length (found_tickets events) + waiting (engine.reads w).messages
@@ -99,7 +99,7 @@ pub record Claims (engine : Engine) (ids : List ℕ) (founder : ℕ) (events : L
   pub once : (ticket : ℕ) → times (found_tickets events) ticket ≤ 1
   -- (e) A next deliver call that names the sender and receiver of any waiting message is not refused.
   pub next : (m : Message) → Mem m (engine.reads w).messages → (k : ℕ)
-      → (called engine w (record { operation = 3; x = m.from; y = m.to })).outcome ≡ Refused k → ⊥
+      → (called engine w (record { operation = 3; x = m.from; y = m.to })).outcome ≡ Err k → ⊥
 
 -- For every reached record: one founder, one list of calls, one ledger.
 unfoldable pub Demand3 : Type 0

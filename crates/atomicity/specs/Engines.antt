@@ -6,8 +6,8 @@ use Rattle.lists.specs.Basics.{distinct}
 use Rattle.lists.specs.Choice.{granted}
 use Rattle.protocol.specs.declared.Answer.{Answer}
 use Rattle.protocol.specs.declared.Answer.TheVariants.{Quiet}
-use Rattle.protocol.specs.declared.Outcome.{Outcome}
-use Rattle.protocol.specs.declared.Outcome.TheVariants.{Refused, Answered}
+use Rattle.protocol.specs.Outcomes.{Outcome}
+use Rattle.std.specs.Prelude.{Err, Ok}
 use Rattle.protocol.specs.Record.{most_nodes, record_size, State, words}
 use Rattle.protocol.specs.Fresh.{fresh}
 use Rattle.protocol.specs.Step.{Result, refused, step}
@@ -21,17 +21,17 @@ use Rattle.atomicity.specs.Preserved.{step_form}
 use Rattle.atomicity.specs.Demand3.{Call, Engine, present, called}
 
 answered_is : Outcome → Type 0
-answered_is (Refused k) = ⊥
-answered_is (Answered a) = Unit {0}
+answered_is (Err k) = ⊥
+answered_is (Ok a) = Unit {0}
 
-pub refused_answered : {k : ℕ} {a : Answer} → Refused k ≡ Answered a → ⊥
+pub refused_answered : {k : ℕ} {a : Answer} → Err k ≡ Ok a → ⊥
 unfolding answered_is
 refused_answered e = subst answered_is (sym e) tt
 
 -- What a step's result leaves in words, and what holds of its state.
 abbrev pub left : (State → List ℕ → List ℕ) → List ℕ → List ℕ → Result → Called
 left put w tail (refused k) = turned_down w k
-left put w tail (went a s) = record { outcome = Answered a; slice = put s tail }
+left put w tail (went a s) = record { outcome = Ok a; slice = put s tail }
 
 abbrev pub On : (State → Type 0) → Result → Type 0
 On P (refused k) = Unit {0}
@@ -53,7 +53,7 @@ pub record Laws (engine : Engine) : Type 1 where
   pub calls : (s : State) (tail : List ℕ) (c : Call) → Fits s
       → called engine (put s tail) c ≡ left put (put s tail) tail (step s c.operation c.x c.y)
   pub keeps : (s : State) → Fits s → (operation x y : ℕ) → On Fits (step s operation x y)
-  pub begins : (slice ids : List ℕ) (founder : ℕ) → (engine.founds slice ids founder).outcome ≡ Answered Quiet
+  pub begins : (slice ids : List ℕ) (founder : ℕ) → (engine.founds slice ids founder).outcome ≡ Ok Quiet
       → Begun put ids founder (engine.founds slice ids founder).slice
   pub starts : (ids : List ℕ) (founder : ℕ) → Form (fresh ids founder) → Fits (fresh ids founder)
 
@@ -75,17 +75,17 @@ call_is s tail c f =
 pub written_left : (s : State) (tail : List ℕ) → Form s → (r : Result) → written (words s ++ tail) r ≡ left (λ z t. words z ++ t) (words s ++ tail) tail r
 unfolding written
 written_left s tail f (refused k) = refl
-written_left s tail f (went a s') = ap (λ t. record { outcome = Answered a; slice = words s' ++ t }) (drop_words s tail f.few f.short)
+written_left s tail f (went a s') = ap (λ t. record { outcome = Ok a; slice = words s' ++ t }) (drop_words s tail f.few f.short)
 
 pub leaves_on : (r : Result) → Leaves r → On Form r
 leaves_on (refused k) l = tt
 leaves_on (went a s) l = leaves_form a s l
 
-pub present_begins : (slice ids : List ℕ) (founder : ℕ) → (fresh_by_call slice ids founder).outcome ≡ Answered Quiet
+pub present_begins : (slice ids : List ℕ) (founder : ℕ) → (fresh_by_call slice ids founder).outcome ≡ Ok Quiet
     → Begun (λ s tail. words s ++ tail) ids founder (fresh_by_call slice ids founder).slice
 unfolding written
 present_begins slice ids founder =
-    fresh_cases slice ids founder (λ z. z.outcome ≡ Answered Quiet → Begun (λ s tail. words s ++ tail) ids founder z.slice)
+    fresh_cases slice ids founder (λ z. z.outcome ≡ Ok Quiet → Begun (λ s tail. words s ++ tail) ids founder z.slice)
     (λ k l m e. absurd (refused_answered e))
     (λ a e. record { below = a.below; few = a.few; differ = a.differ; tail = drop record_size slice; is = refl })
 

@@ -14,9 +14,9 @@ use Rattle.lists.specs.Choice.{on_yes, on_no}
 use Rattle.lists.specs.Tests.{T_true, says_distinct}
 use Rattle.protocol.specs.declared.Route.TheVariants.{Own, To}
 use Rattle.protocol.specs.declared.Answer.TheVariants.{Quiet, Found}
-use Rattle.protocol.specs.declared.Outcome.{Outcome}
-use Rattle.protocol.specs.declared.Outcome.TheVariants.{Refused, Answered}
-use Rattle.protocol.specs.Names.{IDENTIFIER_COUNT, IDENTIFIER_TWICE, LAST_HUB, NO_FOUNDER, NO_MESSAGE, NOT_IN_RING}
+use Rattle.protocol.specs.Outcomes.{Outcome}
+use Rattle.std.specs.Prelude.{Err, Ok}
+use Rattle.protocol.specs.declared.refusal.Refusal.TheVariants.{IdentifierCount, IdentifierTwice, LastHub, NoFounder, NoMessage, NotInRing}
 use Rattle.protocol.specs.Record.{round, record_size, State, count, row, identifier, ticketed, words}
 use Rattle.protocol.specs.Fresh.{smallest, alone, fresh}
 use Rattle.protocol.specs.Routing.{in_ring, covers, onward}
@@ -32,21 +32,21 @@ use Rattle.atomicity.specs.Engines.{Begun, refused_answered, call_is, present_be
 use Rattle.atomicity.specs.Probes.{ask, join, leave, deliver}
 
 -- Where nobody is named the founder is there: fresh never refuses with 18.
-pub never_18 : (w ids : List ℕ) → (fresh_call w ids).outcome ≡ Refused NO_FOUNDER → ⊥
+pub never_18 : (w ids : List ℕ) → (fresh_call w ids).outcome ≡ Err NoFounder → ⊥
 unfolding written
 never_18 w ids =
-    fresh_cases w ids (smallest ids) (λ z. z.outcome ≡ Refused NO_FOUNDER → ⊥)
+    fresh_cases w ids (smallest ids) (λ z. z.outcome ≡ Err NoFounder → ⊥)
     (λ k l m e. let n = m (ap number_of e) in omega (arith, n.1, (smallest_least ids n.0).below))
     (λ a e. refused_answered (sym e))
   where
     number_of : Outcome → ℕ
-    number_of = elim [ Refused k ↦ k | Answered a ↦ 0 ]
+    number_of = elim [ Err k ↦ k | Ok a ↦ 0 ]
 
 -- Question 18 is the last one: an empty list and one with a repeated identifier are refused before it.
 pub in_order : (w : List ℕ) → record_size ≤ length w
-    → ((fresh_by_call w [] 0).outcome ≡ Refused IDENTIFIER_COUNT)
-    × ((fresh_by_call w (100 ∷ 100 ∷ []) 2).outcome ≡ Refused IDENTIFIER_TWICE)
-    × ((fresh_by_call w (100 ∷ 200 ∷ []) 2).outcome ≡ Refused NO_FOUNDER)
+    → ((fresh_by_call w [] 0).outcome ≡ Err IdentifierCount)
+    × ((fresh_by_call w (100 ∷ 100 ∷ []) 2).outcome ≡ Err IdentifierTwice)
+    × ((fresh_by_call w (100 ∷ 200 ∷ []) 2).outcome ≡ Err NoFounder)
 unfolding fresh_by_call require when◌then◌else◌ distinct every
 in_order w l = (
   ap (λ (z : Called). z.outcome) (on_yes _ _ _ (long_yes w l)),
@@ -56,11 +56,11 @@ in_order w l = (
 
 -- The first calls, on the record w.
 pub record FirstCalls (ids : List ℕ) (founder : ℕ) (w : List ℕ) : Type 0 where
-  pub answers : (v : ℕ) → (called present w (ask founder v)).outcome ≡ Answered (Found founder v 0 0)
-  pub stays : (called present w (leave founder)).outcome ≡ Refused LAST_HUB
-  pub empty : (x y : ℕ) → x < length ids → y < length ids → (called present w (deliver x y)).outcome ≡ Refused NO_MESSAGE
-  pub outside_asked : (hub v : ℕ) → hub < length ids → hub ≢ founder → (called present w (ask hub v)).outcome ≡ Refused NOT_IN_RING
-  pub outside_joins : (hub : ℕ) → hub < length ids → hub ≢ founder → (called present w (join hub hub)).outcome ≡ Refused NOT_IN_RING
+  pub answers : (v : ℕ) → (called present w (ask founder v)).outcome ≡ Ok (Found founder v 0 0)
+  pub stays : (called present w (leave founder)).outcome ≡ Err LastHub
+  pub empty : (x y : ℕ) → x < length ids → y < length ids → (called present w (deliver x y)).outcome ≡ Err NoMessage
+  pub outside_asked : (hub v : ℕ) → hub < length ids → hub ≢ founder → (called present w (ask hub v)).outcome ≡ Err NotInRing
+  pub outside_joins : (hub : ℕ) → hub < length ids → hub ≢ founder → (called present w (join hub hub)).outcome ≡ Err NotInRing
 
 -- The steps of the state.
 module _ (ids : List ℕ) (f : ℕ) (below : f < length ids) where
@@ -92,7 +92,7 @@ module _ (ids : List ℕ) (f : ℕ) (below : f < length ids) where
       ∙ on_yes (nat_lt 0 4294967295) _ _ refl
       ∙ ap (asking s f v) (owns v)
 
-  stays : step.step s 2 f 0 ≡ refused LAST_HUB
+  stays : step.step s 2 f 0 ≡ refused LastHub
   unfolding fresh step.step step.leave when◌then◌else◌ in_ring
   stays =
       on_yes _ _ _ (hubs f below)
@@ -100,7 +100,7 @@ module _ (ids : List ℕ) (f : ℕ) (below : f < length ids) where
       ∙ on_yes _ _ _ (ap (λ h. nat_eq h.lock 0) is_alone)
       ∙ on_no _ _ _ (ap (λ h. not (nat_eq h.succ f)) is_alone ∙ ap not (T_true (nat_eq f f) (eqb_refl f)))
 
-  empty : (x y : ℕ) → x < length ids → y < length ids → step.step s 3 x y ≡ refused NO_MESSAGE
+  empty : (x y : ℕ) → x < length ids → y < length ids → step.step s 3 x y ≡ refused NoMessage
   unfolding fresh step.step step.deliver when◌then◌else◌ first require
   empty x y lx ly =
       on_yes _ _ _ (ap (λ b. b && nat_lt y (count s)) (hubs x lx) ∙ hubs y ly)
@@ -110,11 +110,11 @@ module _ (ids : List ℕ) (f : ℕ) (below : f < length ids) where
     unfolding fresh in_ring
     not_in = ap in_ring (other_row ids f below hub ne)
 
-    asked : (v : ℕ) → step.step s 0 hub v ≡ refused NOT_IN_RING
+    asked : (v : ℕ) → step.step s 0 hub v ≡ refused NotInRing
     unfolding step.step step.ask when◌then◌else◌
     asked v = on_yes _ _ _ (hubs hub l) ∙ on_no _ _ _ not_in
 
-    joins : step.step s 1 hub hub ≡ refused NOT_IN_RING
+    joins : step.step s 1 hub hub ≡ refused NotInRing
     unfolding fresh step.step step.join when◌then◌else◌
     joins =
         on_yes _ _ _ (ap (λ b. b && nat_lt hub (count s)) (hubs hub l) ∙ hubs hub l)
@@ -122,7 +122,7 @@ module _ (ids : List ℕ) (f : ℕ) (below : f < length ids) where
         ∙ on_no _ _ _ not_in
 
 -- After every accepted fresh call.
-pub first_calls : (slice ids : List ℕ) (founder : ℕ) → (fresh_by_call slice ids founder).outcome ≡ Answered Quiet
+pub first_calls : (slice ids : List ℕ) (founder : ℕ) → (fresh_by_call slice ids founder).outcome ≡ Ok Quiet
     → FirstCalls ids founder (fresh_by_call slice ids founder).slice
 unfolding written
 first_calls slice ids founder o = subst (FirstCalls ids founder) (sym k.is) (record {

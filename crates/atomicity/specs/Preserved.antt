@@ -24,8 +24,10 @@ use Rattle.protocol.specs.declared.Answer.{Answer}
 use Rattle.protocol.specs.declared.Route.{Route}
 use Rattle.protocol.specs.declared.Route.TheVariants.{Own, To}
 use Rattle.protocol.specs.declared.Decision.{Decision}
-use Rattle.protocol.specs.declared.Decision.TheVariants.{Refuse, Reply, Send}
-use Rattle.protocol.specs.Names.{INSIDE, JOINING, LEAVING, NO_OPERATION, NOT_EXPECTED, OUTSIDE, WANTING_TO_LEAVE, JOIN, JOINRETRY, JOINPOINT, NEWSUCC, NEWSUCCACK, JOINDONE, LEAVEREQ, LEAVERETRY, LEAVEGRANT, LEAVEPOINT, UPDATESUCC, STOPFORWARD, LEAVEDONE, LOOKUP}
+use Rattle.protocol.specs.declared.Decision.TheVariants.{Reply, Send}
+use Rattle.std.specs.Prelude.{Err, Ok}
+use Rattle.protocol.specs.Names.{INSIDE, JOINING, LEAVING, OUTSIDE, WANTING_TO_LEAVE, JOIN, JOINRETRY, JOINPOINT, NEWSUCC, NEWSUCCACK, JOINDONE, LEAVEREQ, LEAVERETRY, LEAVEGRANT, LEAVEPOINT, UPDATESUCC, STOPFORWARD, LEAVEDONE, LOOKUP}
+use Rattle.protocol.specs.declared.refusal.Refusal.TheVariants.{NoOperation, NotExpected}
 use Rattle.protocol.specs.Record.{most_nodes, most_messages, none, State, count, row, identifier, message, no_message, outside, with_row, without_message}
 use Rattle.protocol.specs.WellFormed.{names_node}
 use Rattle.protocol.specs.Fresh.{alone, founded_by, fresh}
@@ -55,9 +57,9 @@ grown_fits m l =
 
 -- A decision at a hub with row h, in a ring of n hubs with q questions asked: its row and its message are as they must be. It refuses by 10 alone.
 abbrev pub Sound : ℕ → ℕ → Row → Decision → Type 0
-Sound n q h (Refuse k) = k ≡ 10
-Sound n q h (Reply v a) = RowForm n v × (v.identifier ≡ h.identifier)
-Sound n q h (Send v m a) = RowForm n v × (v.identifier ≡ h.identifier) × MessageForm n q m
+Sound n q h (Err k) = k ≡ 10
+Sound n q h (Ok (Reply v a)) = RowForm n v × (v.identifier ≡ h.identifier)
+Sound n q h (Ok (Send v m a)) = RowForm n v × (v.identifier ≡ h.identifier) × MessageForm n q m
 
 -- a message that is no LOOKUP
 note_form : {n q : ℕ} (k x y a : ℕ) → 2 ≤ k → k < 15 → x < n → y < n → (T (names_node k) → a < n) → (¬ T (names_node k) → a ≡ 0)
@@ -77,8 +79,8 @@ module _ (n q : ℕ) (h : Row) (r : RowForm n h) (m : Message) (ok : MessageForm
   abbrev Well : Decision → Type 0
   Well d = Sound n q h d
 
-  if_else : (b : Bool) (d : Decision) → (T b → Well d) → Well (when b then d else Refuse NOT_EXPECTED)
-  if_else b d f = choose Well b d (Refuse NOT_EXPECTED) f (λ _. refl)
+  if_else : (b : Bool) (d : Decision) → (T b → Well d) → Well (when b then d else Err NotExpected)
+  if_else b d f = choose Well b d (Err NotExpected) f (λ _. refl)
 
   -- the flag is down in every state but 2
   down : h.state ≢ INSIDE → (h.flag ≡ 0) × (h.oldpred ≡ none)
@@ -222,7 +224,7 @@ module _ (n q : ℕ) (h : Row) (r : RowForm n h) (m : Message) (ok : MessageForm
       )
 
   -- state 2, lock 1, flag 0: the lock is freed
-  freed : (a : Answer) → Well (when nat_eq h.state INSIDE && nat_eq h.lock 1 && nat_eq h.flag 0 then Reply (kinds.with_lock h 0) a else Refuse NOT_EXPECTED)
+  freed : (a : Answer) → Well (when nat_eq h.state INSIDE && nat_eq h.lock 1 && nat_eq h.flag 0 then Ok (Reply (kinds.with_lock h 0) a) else Err NotExpected)
   freed a = if_else (nat_eq h.state INSIDE && nat_eq h.lock 1 && nat_eq h.flag 0) _ λ t.
       let st : h.state ≡ INSIDE = eqb→eq _ INSIDE (and_left (nat_eq h.state INSIDE) (nat_eq h.lock 1) (and_left (nat_eq h.state INSIDE && nat_eq h.lock 1) (nat_eq h.flag 0) t)) in
       let fl : h.flag ≡ 0 = eqb→eq _ 0 (and_right (nat_eq h.state INSIDE && nat_eq h.lock 1) (nat_eq h.flag 0) t) in
@@ -354,9 +356,9 @@ with_row_form s t v f r e =
 
 conclude_form : (s : State) (t : ℕ) (d : Decision) → Form s → length s.messages < most_messages → Sound (count s) s.asked (row s t) d → Leaves (conclude s t d)
 unfolding conclude
-conclude_form s t (Refuse k) f l w = leaves_refused k
-conclude_form s t (Reply v a) f l w = leaves_accepted a _ (with_row_form s t v f w.0 w.1)
-conclude_form s t (Send v m a) f l w =
+conclude_form s t (Err k) f l w = leaves_refused k
+conclude_form s t (Ok (Reply v a)) f l w = leaves_accepted a _ (with_row_form s t v f w.0 w.1)
+conclude_form s t (Ok (Send v m a)) f l w =
     leaves_accepted a _ (sent_form (with_row s t v) m (with_row_form s t v f w.0 w.1) l (rw (length-set s.rows t v) w.2))
 
 mem_part : {A : Type 0} (l : List A) (j : ℕ) (x : A) → Mem x (take j l ++ drop (suc j) l) → Mem x l
@@ -452,7 +454,7 @@ module _ (s : State) (f : Form s) where
   unfolding step.step
   step_form operation x y =
       choose Leaves _ _ _ (λ _. ask_form s f x y) (λ _. choose Leaves _ _ _ (λ _. join_form x y) (λ _. choose Leaves _ _ _ (λ _. leave_form x)
-      (λ _. choose Leaves _ _ _ (λ _. deliver_form x y) (λ _. leaves_refused NO_OPERATION))))
+      (λ _. choose Leaves _ _ _ (λ _. deliver_form x y) (λ _. leaves_refused NoOperation))))
 
 -- A fresh ring is well formed.
 module _ (ids : List ℕ) where

@@ -9,8 +9,8 @@ use Rattle.lists.specs.Basics.{when◌then◌else◌, require, every, distinct, 
 use Rattle.lists.specs.Text.{codes}
 use Rattle.lists.specs.Members.{all_append}
 use Rattle.lists.specs.Tests.{says_distinct}
-use Rattle.protocol.specs.declared.Outcome.{Outcome}
-use Rattle.protocol.specs.declared.Outcome.TheVariants.{Refused, Answered}
+use Rattle.protocol.specs.Outcomes.{Outcome}
+use Rattle.std.specs.Prelude.{Err, Ok}
 use Rattle.protocol.specs.declared.Frame.TheVariants.{Founding, Command}
 use Rattle.protocol.specs.Record.{round, most_nodes, record_size, State, words}
 use Rattle.protocol.specs.Fresh.{smallest, fresh}
@@ -33,8 +33,8 @@ use Rattle.atomicity.specs.Probes.{Probe, interval, ring, ring_by, text, outcome
 
 -- The outcomes on the state: these are computed.
 said : Result → Outcome
-said (refused k) = Refused k
-said (accepted a s) = Answered a
+said (refused k) = Err k
+said (accepted a s) = Ok a
 
 left : State → Result → State
 left s (refused k) = s
@@ -54,9 +54,9 @@ module _ (tail : List ℕ) where
     where
       go : (r : Result) → Leaves r → ((s' : State) → Form s' → outcomes (words s' ++ tail) calls ≡ outcomes_of s' calls)
           → ((written (words s ++ tail) r).outcome ∷ outcomes (written (words s ++ tail) r).slice calls) ≡ (said r ∷ outcomes_of (left s r) calls)
-      go (refused k) l ih = ap (λ z. Refused k ∷ z) (ih s f)
+      go (refused k) l ih = ap (λ z. Err k ∷ z) (ih s f)
       go (accepted a s') l ih =
-          ap (λ t. Answered a ∷ outcomes (words s' ++ t) calls) (drop_words s tail f.few f.short) ∙ ap (λ z. Answered a ∷ z) (ih s' (leaves_form a s' l))
+          ap (λ t. Ok a ∷ outcomes (words s' ++ t) calls) (drop_words s tail f.few f.short) ∙ ap (λ z. Ok a ∷ z) (ih s' (leaves_form a s' l))
 
 -- The lines after the founding read as these calls.
 abbrev Read : List (List ℕ) → List Call → Type 0

@@ -6,9 +6,9 @@ use Rattle.clockwise.specs.Clockwise.{within}
 use Rattle.lists.specs.Basics.{flat}
 use Rattle.lists.specs.Text.{codes}
 use Rattle.protocol.specs.declared.Answer.TheVariants.{Quiet, Found, Entered}
-use Rattle.protocol.specs.declared.Outcome.{Outcome}
-use Rattle.protocol.specs.declared.Outcome.TheVariants.{Refused, Answered}
-use Rattle.protocol.specs.Names.{LAST_HUB, NO_MESSAGE, NOT_IN_RING}
+use Rattle.protocol.specs.Outcomes.{Outcome}
+use Rattle.std.specs.Prelude.{Err, Ok}
+use Rattle.protocol.specs.declared.refusal.Refusal.TheVariants.{LastHub, NoMessage, NotInRing}
 use Rattle.protocol.specs.Record.{round, record_size}
 use Rattle.protocol.specs.Calls.{Called, fresh_call, fresh_by_call}
 use Rattle.protocol.specs.Frames.{line_call}
@@ -57,7 +57,7 @@ abbrev pub deliver : ℕ → ℕ → Call
 deliver x y = record { operation = 3; x = x; y = y }
 
 abbrev pub quiet : Outcome
-quiet = Answered Quiet
+quiet = Ok Quiet
 
 abbrev pub eight_ids : List ℕ
 eight_ids = 100 ∷ 200 ∷ []
@@ -67,7 +67,7 @@ eight_calls = ask 0 150 ∷ join 1 0 ∷ deliver 1 0 ∷ ask 0 150 ∷ deliver 0
 
 abbrev pub eight_outcomes : List Outcome
 eight_outcomes =
-    quiet ∷ Answered (Found 0 150 0 0) ∷ quiet ∷ Answered (Entered 1) ∷ quiet ∷ quiet ∷ quiet ∷ Answered (Found 1 150 1 1) ∷ []
+    quiet ∷ Ok (Found 0 150 0 0) ∷ quiet ∷ Ok (Entered 1) ∷ quiet ∷ quiet ∷ quiet ∷ Ok (Found 1 150 1 1) ∷ []
 
 abbrev pub intervals : List Probe
 intervals =
@@ -80,10 +80,10 @@ intervals =
 -- founds these rings, by its identifier or by name.
 abbrev pub refused : (List ℕ → List Call → List Outcome → Probe) → List Probe
 refused begun =
-    begun (100 ∷ []) (leave 0 ∷ []) (quiet ∷ Refused LAST_HUB ∷ [])
-    ∷ begun (100 ∷ []) (deliver 0 0 ∷ []) (quiet ∷ Refused NO_MESSAGE ∷ [])
-    ∷ begun (100 ∷ 200 ∷ []) (ask 1 150 ∷ []) (quiet ∷ Refused NOT_IN_RING ∷ [])
-    ∷ begun (100 ∷ 200 ∷ []) (join 1 1 ∷ []) (quiet ∷ Refused NOT_IN_RING ∷ [])
+    begun (100 ∷ []) (leave 0 ∷ []) (quiet ∷ Err LastHub ∷ [])
+    ∷ begun (100 ∷ []) (deliver 0 0 ∷ []) (quiet ∷ Err NoMessage ∷ [])
+    ∷ begun (100 ∷ 200 ∷ []) (ask 1 150 ∷ []) (quiet ∷ Err NotInRing ∷ [])
+    ∷ begun (100 ∷ 200 ∷ []) (join 1 1 ∷ []) (quiet ∷ Err NotInRing ∷ [])
     ∷ []
 
 abbrev pub refusals : List Probe
@@ -129,7 +129,7 @@ abbrev pub asks : List Call
 asks = ask 0 150 ∷ ask 1 150 ∷ []
 
 abbrev pub named_outcomes : List Outcome
-named_outcomes = quiet ∷ Answered (Found 0 150 0 0) ∷ Refused NOT_IN_RING ∷ []
+named_outcomes = quiet ∷ Ok (Found 0 150 0 0) ∷ Err NotInRing ∷ []
 
 abbrev pub swapped_lines : List String
 swapped_lines = "F0000000C800000064" ∷ "000000000000000096" ∷ "000000000100000096" ∷ []
@@ -139,7 +139,7 @@ swapped_texts = "000000000000000000000000\n" ∷ "010000000096000000000000\n" �
 
 abbrev pub foundings : List Probe
 foundings =
-    ring swapped asks (quiet ∷ Refused NOT_IN_RING ∷ Answered (Found 1 150 0 0) ∷ [])
+    ring swapped asks (quiet ∷ Err NotInRing ∷ Ok (Found 1 150 0 0) ∷ [])
     ∷ ring_by swapped 0 asks named_outcomes
     ∷ text swapped_lines swapped_texts
     ∷ []

@@ -7,8 +7,8 @@ use Rattle.lists.specs.Choice.{tested}
 use Rattle.lists.specs.Tests.{T_true, true_T, says_distinct}
 use Rattle.protocol.specs.declared.Answer.{Answer}
 use Rattle.protocol.specs.declared.Answer.TheVariants.{Quiet}
-use Rattle.protocol.specs.declared.Outcome.{Outcome}
-use Rattle.protocol.specs.declared.Outcome.TheVariants.{Refused, Answered}
+use Rattle.protocol.specs.Outcomes.{Outcome}
+use Rattle.std.specs.Prelude.{Err, Ok}
 use Rattle.protocol.specs.Record.{most_nodes, record_size, read, words}
 use Rattle.protocol.specs.WellFormed.{well_formed}
 use Rattle.protocol.specs.Fresh.{fresh}
@@ -26,15 +26,15 @@ pub record Kept (w v : List ℕ) : Type 0 where
   pub later : drop record_size v ≡ drop record_size w
 
 abbrev pub Sound : List ℕ → Called → Type 0
-Sound w r = Kept w r.slice × ((a : Answer) → r.outcome ≡ Answered a → well_formed r.slice ≡ true)
+Sound w r = Kept w r.slice × ((a : Answer) → r.outcome ≡ Ok a → well_formed r.slice ≡ true)
 
 turned_sound : (w : List ℕ) (k : ℕ) → Sound w (turned_down w k)
 turned_sound w k = (record { size = refl; later = refl }, λ a e. absurd (no_answer e))
   where
     is_refused : Outcome → Type 0
-    is_refused = elim [ Refused j ↦ Unit {0} | Answered a ↦ ⊥ ]
+    is_refused = elim [ Err j ↦ Unit {0} | Ok a ↦ ⊥ ]
 
-    no_answer : {a : Answer} → Refused k ≡ Answered a → ⊥
+    no_answer : {a : Answer} → Err k ≡ Ok a → ⊥
     no_answer e = subst is_refused e tt
 
 written_sound : (w : List ℕ) (r : Result) → record_size ≤ length w → Leaves r → Sound w (written w r)
@@ -71,7 +71,7 @@ words_of_read w l ok = words_read w (tidy w (true_T _ ok) l)
 
 -- What a fresh call of a good list of identifiers gives.
 pub fresh_gives : (w ids : List ℕ) (founder : ℕ) → record_size ≤ length w → T (nat_lt founder (length ids)) → T (nat_le (length ids) most_nodes) → T (distinct ids)
-    → fresh_by_call w ids founder ≡ record { outcome = Answered Quiet; slice = words (fresh ids founder) ++ drop record_size w }
+    → fresh_by_call w ids founder ≡ record { outcome = Ok Quiet; slice = words (fresh ids founder) ++ drop record_size w }
 unfolding written
 fresh_gives w ids founder l below few differ =
     let b = ltb→lt founder (length ids) below in

@@ -8,9 +8,9 @@ use Rattle.lists.specs.Members.{ind_same}
 use Rattle.protocol.specs.declared.Row.{Row}
 use Rattle.protocol.specs.declared.Message.{Message}
 use Rattle.protocol.specs.declared.Answer.TheVariants.{Quiet, Found, Entered}
-use Rattle.protocol.specs.declared.Outcome.{Outcome}
-use Rattle.protocol.specs.declared.Outcome.TheVariants.{Refused, Answered}
-use Rattle.protocol.specs.Names.{RECORD_SHORT, NOT_EXPECTED}
+use Rattle.protocol.specs.Outcomes.{Outcome}
+use Rattle.std.specs.Prelude.{Err, Ok}
+use Rattle.protocol.specs.declared.refusal.Refusal.TheVariants.{RecordShort, NotExpected}
 use Rattle.protocol.specs.Record.{State, outside, read, words}
 use Rattle.protocol.specs.Fresh.{alone}
 use Rattle.protocol.specs.Routing.{in_ring, responsible, covers}
@@ -64,24 +64,24 @@ holder_no_member claims =
     omega (arith, ap hub_of_lem e)
 
 -- (b) Hub 1 answers before it is taken in: the ledger at that call has hub 0 alone, though the ledger after the list has hub 1 too.
-pub answered_too_early : (w : List ℕ) → Claims present two 0 (asked (Answered Quiet) ∷ arrived (Answered (Found 1 150 0 1)) ∷ arrived (Answered (Entered 1)) ∷ []) w → ⊥
+pub answered_too_early : (w : List ℕ) → Claims present two 0 (asked (Ok Quiet) ∷ arrived (Ok (Found 1 150 0 1)) ∷ arrived (Ok (Entered 1)) ∷ []) w → ⊥
 unfolding owner_among nearer members_after after_outcome hub_of_lem
 answered_too_early w claims =
-    let e = claims.found (asked (Answered Quiet) ∷ []) (arrived (Answered (Found 1 150 0 1))) (arrived (Answered (Entered 1)) ∷ []) refl 1 150 0 1 refl in
+    let e = claims.found (asked (Ok Quiet) ∷ []) (arrived (Ok (Found 1 150 0 1))) (arrived (Ok (Entered 1)) ∷ []) refl 1 150 0 1 refl in
     omega (arith, ap hub_of_lem e)
 
 -- (c) A question was accepted, and neither answered nor does it wait.
-pub question_lost : Claims present two 0 (asked (Answered Quiet) ∷ []) (ring (alone 0 100) (outside 200) []) → ⊥
+pub question_lost : Claims present two 0 (asked (Ok Quiet) ∷ []) (ring (alone 0 100) (outside 200) []) → ⊥
 unfolding questions_accepted found_tickets accepted_ask ticket_of waiting when◌then◌else◌
 question_lost claims = omega (arith, claims.questions, ap (λ z. waiting z.messages) (same (alone 0 100) (outside 200) []))
 
 -- A question was answered that nobody asked.
-pub question_invented : Claims present two 0 (arrived (Answered (Found 0 150 0 1)) ∷ []) (ring (alone 0 100) (outside 200) []) → ⊥
+pub question_invented : Claims present two 0 (arrived (Ok (Found 0 150 0 1)) ∷ []) (ring (alone 0 100) (outside 200) []) → ⊥
 unfolding questions_accepted found_tickets accepted_ask ticket_of waiting when◌then◌else◌
 question_invented claims = omega (arith, claims.questions, ap (λ z. waiting z.messages) (same (alone 0 100) (outside 200) []))
 
 -- (d) The question with ticket 7 was answered twice.
-pub answered_twice : (w : List ℕ) → Claims present two 0 (arrived (Answered (Found 0 150 7 1)) ∷ arrived (Answered (Found 0 150 7 2)) ∷ []) w → ⊥
+pub answered_twice : (w : List ℕ) → Claims present two 0 (arrived (Ok (Found 0 150 7 1)) ∷ arrived (Ok (Found 0 150 7 2)) ∷ []) w → ⊥
 unfolding found_tickets ticket_of
 answered_twice w claims = omega (arith, claims.once 7, ind_same 7)
 
@@ -93,7 +93,7 @@ well_formed_lem : T (formed stranded)
 unfolding formed distinct every row_ok pointers_ok lock_ok flag_ok message_ok names_node a_ok b_ok hops_ok when◌then◌else◌
 well_formed_lem = tt
 
-refuses : (called present (words stranded ++ []) (record { operation = 3; x = 0; y = 1 })).outcome ≡ Refused NOT_EXPECTED
+refuses : (called present (words stranded ++ []) (record { operation = 3; x = 0; y = 1 })).outcome ≡ Err NotExpected
 unfolding written step deliver delivered on_link first handle lookup in_ring conclude require when◌then◌else◌
 refuses =
     ap (λ z. z.outcome) (call_is stranded [] (record { operation = 3; x = 0; y = 1 }) (tested_form stranded (omega arith) (omega arith) (omega arith) well_formed_lem))
@@ -101,9 +101,9 @@ refuses =
 pub question_stranded : (events : List Event) → Claims present two 0 events (words stranded ++ []) → ⊥
 question_stranded events claims =
     claims.next (question 0 1 150 0 0)
-    (subst (λ z. Mem (question 0 1 150 0 0) z.messages) (sym (read_words stranded [] (omega arith))) (inl refl)) NOT_EXPECTED refuses
+    (subst (λ z. Mem (question 0 1 150 0 0) z.messages) (sym (read_words stranded [] (omega arith))) (inl refl)) NotExpected refuses
 
 -- One message waits in a record that is cut short: every call is refused.
 pub record_cut : (events : List Event) → Claims present two 0 events (1 ∷ 1 ∷ 1 ∷ 0 ∷ []) → ⊥
 unfolding read table step_call on_record long require when◌then◌else◌
-record_cut events claims = claims.next (record { kind = 0; from = 0; to = 0; a = 0; b = 0; hops = 0 }) (inl refl) RECORD_SHORT refl
+record_cut events claims = claims.next (record { kind = 0; from = 0; to = 0; a = 0; b = 0; hops = 0 }) (inl refl) RecordShort refl

@@ -16,8 +16,8 @@ use Rattle.lists.specs.Tests.{and_left, and_right, and_both, true_T, T_true, →
 use Rattle.protocol.specs.declared.Message.{Message}
 use Rattle.protocol.specs.declared.Answer.{Answer}
 use Rattle.protocol.specs.declared.Answer.TheVariants.{Quiet, Found}
-use Rattle.protocol.specs.declared.Outcome.{Outcome}
-use Rattle.protocol.specs.declared.Outcome.TheVariants.{Refused, Answered}
+use Rattle.protocol.specs.Outcomes.{Outcome}
+use Rattle.std.specs.Prelude.{Err, Ok}
 use Rattle.protocol.specs.Names.{INSIDE, WANTING_TO_LEAVE, LOOKUP}
 use Rattle.protocol.specs.Record.{round, most_nodes, State, row, message, no_message}
 use Rattle.protocol.specs.Fresh.{fresh}
@@ -56,8 +56,8 @@ times_append (x ∷ a) b k = omega (arith, times_append a b k)
 
 -- the answer of an outcome that has one
 answer_in : Outcome → Answer
-answer_in (Refused k) = Quiet
-answer_in (Answered a) = a
+answer_in (Err k) = Quiet
+answer_in (Ok a) = a
 
 -- The identifiers of a ring that was founded.
 pub record Ring (ids : List ℕ) : Type 0 where
@@ -72,12 +72,12 @@ module _ (ids : List ℕ) where
   abbrev Named : List ℕ → List Event → Type 0
   Named members [] = Unit {0}
   Named members (e ∷ events) =
-      ((hub number ticket hops : ℕ) → e.outcome ≡ Answered (Found hub number ticket hops) → owner_among ids members number ≡ node hub)
+      ((hub number ticket hops : ℕ) → e.outcome ≡ Ok (Found hub number ticket hops) → owner_among ids members number ≡ node hub)
       × Named (after_outcome members e.outcome) events
 
   -- the same at any of them
   named_at : (members : List ℕ) (before : List Event) (e : Event) (after : List Event) → Named members (before ++ (e ∷ after))
-      → (hub number ticket hops : ℕ) → e.outcome ≡ Answered (Found hub number ticket hops) → owner_among ids (members_after members before) number ≡ node hub
+      → (hub number ticket hops : ℕ) → e.outcome ≡ Ok (Found hub number ticket hops) → owner_among ids (members_after members before) number ≡ node hub
   unfolding members_after
   named_at members [] e after n = n.0
   named_at members (x ∷ before) e after n = named_at (after_outcome members x.outcome) before e after n.1
@@ -99,7 +99,7 @@ module _ (ids : List ℕ) where
       ap (λ l. ticket_of x.outcome ++ l) (found_last events e) ∙ sym (append_assoc (ticket_of x.outcome) (found_tickets events) (ticket_of e.outcome))
 
   named_last : (members : List ℕ) (events : List Event) (e : Event) → Named members events
-      → ((hub number ticket hops : ℕ) → e.outcome ≡ Answered (Found hub number ticket hops) → owner_among ids (members_after members events) number ≡ node hub)
+      → ((hub number ticket hops : ℕ) → e.outcome ≡ Ok (Found hub number ticket hops) → owner_among ids (members_after members events) number ≡ node hub)
       → Named members (events ++ (e ∷ []))
   unfolding members_after
   named_last members [] e n f = (f, tt)
@@ -153,7 +153,7 @@ module _ (ids : List ℕ) (small : (h : ℕ) → get_or ids h 0 < round) (inj : 
 
   -- a found answer's owner, as the ledger computes it
   owner_named : {s : State} {members ks : List ℕ} → Good id c s members ks → (a : Answer) → Names id members a
-      → (hub number ticket hops : ℕ) → Answered a ≡ Answered (Found hub number ticket hops) → owner_among ids members number ≡ node hub
+      → (hub number ticket hops : ℕ) → Ok a ≡ Ok (Found hub number ticket hops) → owner_among ids members number ≡ node hub
   unfolding answer_in
   owner_named {s} {members} {ks} G a n hub number ticket hops e =
       let k = subst (Names id members) (ap answer_in e) n in
@@ -254,7 +254,7 @@ module _ (ids : List ℕ) (founder : ℕ) (engine : Engine) (L : Laws engine) (P
   more : (events : List Event) (w : List ℕ) (r : Way events w) (k : Call) (o : Outcome) (s : State) (tail ks : List ℕ)
       → L.Fits s → Good (λ h. get_or ids h 0) (length ids) s (after_outcome (after events) o) ks → P (after_outcome (after events) o) s
       → s.asked ≡ r.state.asked + accepted_ask k.operation o → ks ≡ ticket_of o ++ r.tickets
-      → ((hub number ticket hops : ℕ) → o ≡ Answered (Found hub number ticket hops) → owner_among ids (after events) number ≡ node hub)
+      → ((hub number ticket hops : ℕ) → o ≡ Ok (Found hub number ticket hops) → owner_among ids (after events) number ≡ node hub)
       → Way (events ++ (record { call = k; outcome = o } ∷ [])) (L.put s tail)
   more events w r k o s tail ks f G p ea ek named =
       let e : Event = record { call = k; outcome = o } in
@@ -314,10 +314,10 @@ module _ (ids : List ℕ) (founder : ℕ) (engine : Engine) (L : Laws engine) (P
       go : (x : Result) → Ok x → On L.Fits x → Kept ids P members x
           → Way (events ++ (record { call = k; outcome = (left L.put (L.put s tail) tail x).outcome } ∷ [])) (left L.put (L.put s tail) tail x).slice
       go (refused z) fine f p =
-          more events w r k (Refused z) s tail r.tickets r.fits r.good r.also (omega arith) refl (λ hub number ticket hops e. absurd (refused_answered e))
+          more events w r k (Err z) s tail r.tickets r.fits r.good r.also (omega arith) refl (λ hub number ticket hops e. absurd (refused_answered e))
       go (went a s') fine f p =
           let n = fine_next _ (length ids) members r.tickets (s.asked + question k.operation) true a s' fine in
-          more events w r k (Answered a) s' tail (found_ticket a ++ r.tickets) f n.good p n.asked refl (owner_named ids small inj r.good a n.named)
+          more events w r k (Ok a) s' tail (found_ticket a ++ r.tickets) f n.good p n.asked refl (owner_named ids small inj r.good a n.named)
 
   -- every list of calls
   pub runs : (events : List Event) (w : List ℕ) → Way events w → (calls : List Call) → All ThreeWords calls
@@ -406,11 +406,11 @@ module _ (ids : List ℕ) (engine : Engine) (L : Laws engine) where
       holds_of : (h v : ℕ) → holds (engine.reads (L.put s r.tail)) h v ≡ true → holds s h v ≡ true
       holds_of h v p = subst (λ z. holds z h v ≡ true) same p
 
-      next_call : (m : Message) → Mem m s.messages → (k : ℕ) → (called engine (L.put s r.tail) (record { operation = 3; x = m.from; y = m.to })).outcome ≡ Refused k → ⊥
+      next_call : (m : Message) → Mem m s.messages → (k : ℕ) → (called engine (L.put s r.tail) (record { operation = 3; x = m.from; y = m.to })).outcome ≡ Err k → ⊥
       next_call m i k e =
           go (deliver s m.from m.to) refl (sym (ap (λ z. z.outcome) (L.calls s r.tail (record { operation = 3; x = m.from; y = m.to }) r.fits)) ∙ e)
         where
-          go : (x : Result) → deliver s m.from m.to ≡ x → (left L.put (L.put s r.tail) r.tail x).outcome ≡ Refused k → ⊥
+          go : (x : Result) → deliver s m.from m.to ≡ x → (left L.put (L.put s r.tail) r.tail x).outcome ≡ Err k → ⊥
           go (refused z) d q =
               next ids small inj s members r.tickets r.good m i z d
           go (went a s') d q = refused_answered (sym q)

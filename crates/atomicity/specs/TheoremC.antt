@@ -8,8 +8,8 @@ use Rattle.lists.specs.Basics.{when◌then◌else◌, require, All}
 use Rattle.lists.specs.Choice.{tested}
 use Rattle.lists.specs.Members.{all_append}
 use Rattle.protocol.specs.declared.Answer.TheVariants.{Quiet}
-use Rattle.protocol.specs.declared.Outcome.TheVariants.{Answered}
-use Rattle.protocol.specs.Names.{RECORD_SHORT, NOT_WELL_FORMED, OUTPUT_SHORT}
+use Rattle.std.specs.Prelude.{Ok}
+use Rattle.protocol.specs.declared.refusal.Refusal.TheVariants.{RecordShort, NotWellFormed, OutputShort}
 use Rattle.protocol.specs.Record.{read}
 use Rattle.protocol.specs.WellFormed.{well_formed}
 use Rattle.protocol.specs.Step as meaning
@@ -87,8 +87,8 @@ module _ (b : List ℕ) where
   step_back : (operation x y : ℕ) → Back (step_call (words_of b) operation x y)
   unfolding step_call on_record
   step_back operation x y =
-      tested Back (long (words_of b)) _ _ (turned_back RECORD_SHORT)
-      (λ l. tested Back (well_formed (words_of b)) _ _ (turned_back NOT_WELL_FORMED) (λ f. written_back (meaning.step (read (words_of b)) operation x y)))
+      tested Back (long (words_of b)) _ _ (turned_back RecordShort)
+      (λ l. tested Back (well_formed (words_of b)) _ _ (turned_back NotWellFormed) (λ f. written_back (meaning.step (read (words_of b)) operation x y)))
 
   fresh_back : (ids : List ℕ) (founder : ℕ) → Back (fresh_by_call (words_of b) ids founder)
   fresh_back ids founder = fresh_cases (words_of b) ids founder Back (λ k l m. turned_back k) (λ a. written_back (accepted Quiet _))
@@ -135,7 +135,7 @@ module _ (ids : List ℕ) (founder : ℕ) (events : List Event) (b : List ℕ) (
   unfolding step_bytes carried batch_bytes batch_carried batch_call batch_written require when◌then◌else◌ bytes_after
   one_call (step c out) t = go (nat_le 20 (length out))
     where
-      go : (z : Bool) → At ids founder (events ++ require z [] (event b c ∷ [])) (require z (record { code = OUTPUT_SHORT; bytes = b; output = out }) (carried b out (called present (words_of b) c))).bytes
+      go : (z : Bool) → At ids founder (events ++ require z [] (event b c ∷ [])) (require z (record { code = OutputShort; bytes = b; output = out }) (carried b out (called present (words_of b) c))).bytes
       go true = steps_on ids founder events b r c t
       go false = none
   one_call (route hub numbers out) t =
@@ -153,10 +153,10 @@ every_call ids founder events b r (c ∷ calls) t =
     (every_call ids founder (events ++ step_of b c) (called_bytes b c).bytes (one_call ids founder events b r c t.0) calls t.1)
 
 -- A fresh call that returns 0 was accepted.
-fresh_zero : (w ids : List ℕ) (founder : ℕ) → refusal (fresh_by_call w ids founder).outcome ≡ 0 → (fresh_by_call w ids founder).outcome ≡ Answered Quiet
+fresh_zero : (w ids : List ℕ) (founder : ℕ) → refusal (fresh_by_call w ids founder).outcome ≡ 0 → (fresh_by_call w ids founder).outcome ≡ Ok Quiet
 unfolding refusal written
 fresh_zero w ids founder =
-    fresh_cases w ids founder (λ z. refusal z.outcome ≡ 0 → z.outcome ≡ Answered Quiet) (λ k l m e. absurd (omega arith)) (λ a e. refl)
+    fresh_cases w ids founder (λ z. refusal z.outcome ≡ 0 → z.outcome ≡ Ok Quiet) (λ k l m e. absurd (omega arith)) (λ a e. refl)
 
 begins : (lent ids : List ℕ) (founder : ℕ) → All Byte lent → All Word ids → refusal (fresh_by_call (words_of lent) ids founder).outcome ≡ 0
     → At ids founder [] (bytes_after lent (fresh_by_call (words_of lent) ids founder).slice (fresh_by_call (words_of lent) ids founder).outcome)

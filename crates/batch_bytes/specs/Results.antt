@@ -6,8 +6,8 @@ use Rattle.std.proofs.Math.ListN.{take, drop}
 use Rattle.lists.specs.Basics.{All, flat}
 use Rattle.lists.specs.Blocks.{length_table, length_flat}
 use Rattle.protocol.specs.declared.Answer.TheVariants.{Quiet}
-use Rattle.protocol.specs.declared.Outcome.TheVariants.{Answered}
-use Rattle.protocol.specs.Names.{NOT_WELL_FORMED, PLACES_SHORT, RECORD_SHORT, ROUTE_LONG}
+use Rattle.std.specs.Prelude.{Ok}
+use Rattle.protocol.specs.declared.refusal.Refusal.TheVariants.{NotWellFormed, PlacesShort, RecordShort, RouteLong}
 use Rattle.protocol.specs.Record.{record_size}
 use Rattle.protocol.specs.WellFormed.{well_formed}
 use Rattle.protocol.specs.Answers.{refusal}
@@ -43,7 +43,7 @@ module _ (b : List ℕ) (hub : ℕ) (numbers out : List ℕ) where
   abbrev rest : BatchCalled
   rest = batch_written (words_of numbers) (words_of out) (ask_each (words_of b) hub (words_of numbers))
 
-  pub bytes_1 : length b < 4 * record_size → batch_bytes b hub numbers out ≡ none RECORD_SHORT
+  pub bytes_1 : length b < 4 * record_size → batch_bytes b hub numbers out ≡ none RecordShort
   unfolding batch_bytes batch_call batch_carried refusal bytes_after
   bytes_1 l = ap given (batch_1 (words_of b) (words_of numbers) (words_of out) (unasked (words_of b) (words_of out)) rest (omega (arith, words_length b)))
 
@@ -60,7 +60,7 @@ module _ (b : List ℕ) (hub : ℕ) (numbers out : List ℕ) where
     both_formed : well_formed (words_of b) ≡ well_formed a
     both_formed = ap well_formed (words_split b record_size l) ∙ same_formed a t size
 
-    pub bytes_2 : well_formed a ≡ false → batch_bytes b hub numbers out ≡ none NOT_WELL_FORMED
+    pub bytes_2 : well_formed a ≡ false → batch_bytes b hub numbers out ≡ none NotWellFormed
     unfolding batch_bytes batch_call batch_carried refusal bytes_after
     bytes_2 e =
         ap given (batch_2 (words_of b) (words_of numbers) (words_of out) (unasked (words_of b) (words_of out)) rest (omega (arith, words_length b)) (both_formed ∙ e))
@@ -72,7 +72,7 @@ module _ (b : List ℕ) (hub : ℕ) (numbers out : List ℕ) where
       all_valid : Valid (words_of b)
       all_valid = valid (words_of b) (omega (arith, words_length b)) (both_formed ∙ f)
 
-      pub bytes_25 : most_questions < length numbers / 4 → batch_bytes b hub numbers out ≡ none ROUTE_LONG
+      pub bytes_25 : most_questions < length numbers / 4 → batch_bytes b hub numbers out ≡ none RouteLong
       unfolding batch_bytes batch_call batch_carried refusal bytes_after
       bytes_25 h =
           ap given (batch_25 (words_of b) (words_of numbers) (words_of out) (unasked (words_of b) (words_of out)) rest all_valid (omega (arith, words_length numbers)))
@@ -81,7 +81,7 @@ module _ (b : List ℕ) (hub : ℕ) (numbers out : List ℕ) where
         few_words : length (words_of numbers) ≤ most_questions
         few_words = omega (arith, words_length numbers)
 
-        pub bytes_26 : length out / 24 < length numbers / 4 → batch_bytes b hub numbers out ≡ none PLACES_SHORT
+        pub bytes_26 : length out / 24 < length numbers / 4 → batch_bytes b hub numbers out ≡ none PlacesShort
         unfolding batch_bytes batch_call batch_carried refusal bytes_after
         bytes_26 h =
             ap given (batch_26 (words_of b) (words_of numbers) (words_of out) (unasked (words_of b) (words_of out)) rest all_valid few_words
@@ -117,7 +117,7 @@ module _ (b : List ℕ) (hub : ℕ) (numbers out : List ℕ) where
               ∙ ap (λ z. batch_written ns (words_of out) (ask_each z hub ns)) (words_split b record_size l)
               ∙ ap (batch_written ns (words_of out)) (same_each a t loaded_valid size hub ns)
 
-          pub bytes_rest : All Byte b → All Byte out → (o₀ z o : List ℕ) → batch_written ns o₀ done ≡ record { outcome = Answered Quiet; slice = z; output = o }
+          pub bytes_rest : All Byte b → All Byte out → (o₀ z o : List ℕ) → batch_written ns o₀ done ≡ record { outcome = Ok Quiet; slice = z; output = o }
               → batch_bytes b hub numbers out ≡ record { code = 0; bytes = over b z; output = over out (take p o) }
           unfolding batch_bytes batch_written batch_carried refusal bytes_after
           bytes_rest hb ho o₀ z o e =

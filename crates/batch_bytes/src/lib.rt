@@ -6,7 +6,7 @@ ghost use Rattle.std.specs.Prelude.{◌≡◌};
 ghost use Rattle.protocol.specs.Batch.{batch_bytes};
 
 use protocol::form::{MOST_QUESTIONS, PLACE_WORDS, RECORD_BYTES};
-use protocol::refusals;
+use protocol::Refusal;
 use word_bytes::{load, loaded, save};
 
 // Four bytes a word.
@@ -19,18 +19,18 @@ pub fn ask(words: &mut [u8], node: u32, numbers: &[u8], outcomes: &mut [u8]) -> 
     ensures { batch_bytes words.old node numbers.now outcomes.old ≡ record { code = result; bytes = words.new; output = outcomes.new } }
 {
     if words.len() < RECORD_BYTES {
-        return refusals::RECORD_SHORT;
+        return Refusal::RecordShort;
     }
     let mut w = loaded(&words[..]);
     if !wellformed::well_formed(&w) {
-        return refusals::NOT_WELL_FORMED;
+        return Refusal::NotWellFormed;
     }
     let n = numbers.len() / 4;
     if MOST_QUESTIONS < n {
-        return refusals::ROUTE_LONG;
+        return Refusal::RouteLong;
     }
     if outcomes.len() / PLACE_BYTES < n {
-        return refusals::PLACES_SHORT;
+        return Refusal::PlacesShort;
     }
     let mut asked = [0u32; MOST_QUESTIONS];
     load(numbers, &mut asked, n);

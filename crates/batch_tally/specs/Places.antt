@@ -11,8 +11,8 @@ use Rattle.lists.specs.Members.{all_mem, mem_at}
 use Rattle.lists.specs.Blocks.{flat_split, length_front}
 use Rattle.protocol.specs.declared.Answer.{Answer}
 use Rattle.protocol.specs.declared.Answer.TheVariants.{Quiet, Found, Entered, Gone, JoinTurnedAway, LeaveTurnedAway, Joined, Left}
-use Rattle.protocol.specs.declared.Outcome.{Outcome}
-use Rattle.protocol.specs.declared.Outcome.TheVariants.{Refused, Answered}
+use Rattle.protocol.specs.Outcomes.{Outcome}
+use Rattle.std.specs.Prelude.{Err, Ok}
 use Rattle.protocol.specs.declared.Tally.{Tally}
 use Rattle.protocol.specs.Names.{REFUSAL}
 use Rattle.protocol.specs.Answers.{answer_words, kind_of, count_of, raised_at, counted}
@@ -24,8 +24,8 @@ use Rattle.batches.specs.Each.{length_asked, place_size_lem}
 
 -- How many places a call with n numbers has written.
 unfoldable pub written_places : Outcome → ℕ → ℕ
-written_places (Refused k) n = 0
-written_places (Answered a) n = n
+written_places (Err k) n = 0
+written_places (Ok a) n = n
 
 -- The count that a place raises, from its first word on: its refusal, then its answer's kind.
 unfoldable pub count_at : List ℕ → ℕ → ℕ
@@ -46,8 +46,8 @@ counted_next t o i = ap (counted_places t o) (sym (add-one i))
 
 -- A place tells a refusal from an answer, where no refusal has the number 0.
 Told : Outcome → Type 0
-Told (Refused k) = 0 < k
-Told (Answered a) = Unit {0}
+Told (Err k) = 0 < k
+Told (Ok a) = Unit {0}
 
 kind_first : (a : Answer) (rest : List ℕ) → get_or (answer_words a ++ rest) 0 0 ≡ kind_of a
 unfolding answer_words kind_of
@@ -62,11 +62,11 @@ kind_first (Left hub) rest = refl
 
 place_counts : (o : Outcome) → Told o → (p rest : List ℕ) (at : ℕ) → length p ≡ at → count_at (p ++ (place_words o ++ rest)) at ≡ count_of o
 unfolding count_at count_of place_words Told when◌then◌else◌
-place_counts (Refused k) l p rest at e =
+place_counts (Err k) l p rest at e =
     let q : List ℕ = 0 ∷ 0 ∷ 0 ∷ 0 ∷ 0 ∷ rest in
     ap (λ z. when nat_eq z 0 then get_or (p ++ (k ∷ q)) (at + 1) 0 else REFUSAL) (get_or_at p k q 0 at e)
     ∙ ap (λ z. when z then get_or (p ++ (k ∷ q)) (at + 1) 0 else REFUSAL) (ne_eqb k 0 (λ z. omega arith))
-place_counts (Answered a) l p rest at e =
+place_counts (Ok a) l p rest at e =
     let q : List ℕ = answer_words a ++ rest in
     ap (λ z. when nat_eq z 0 then get_or (p ++ (0 ∷ q)) (at + 1) 0 else REFUSAL) (get_or_at p 0 q 0 at e)
     ∙ ap (λ z. get_or (p ++ (0 ∷ q)) (z + 1) 0) (sym e) ∙ get_or-append-add p (0 ∷ q) 1 0 ∙ kind_first a rest
@@ -83,7 +83,7 @@ module _ (t : Tally) (outcomes : List Outcome) (told : All Told outcomes) (rest 
   o = flat place_words outcomes ++ rest
 
   none : Outcome
-  none = Answered Quiet
+  none = Ok Quiet
 
   at_place : (i : ℕ) → i < length outcomes → count_at o (place_size * i) ≡ count_of (get_or outcomes i none)
   at_place i l =

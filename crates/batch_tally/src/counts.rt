@@ -4,15 +4,15 @@ ghost use Rattle.protocol.specs.Batch.{place_size};
 ghost use Rattle.batch_tally.specs.Places.{written_places, count_at, counted_places};
 
 use protocol::form::PLACE_WORDS;
-use protocol::{Outcome, Tally, answer_kinds};
+use protocol::{Answer, Refusal, Tally, answer_kinds};
 
 // How many places a call with n numbers has written: none, where it is refused.
-pub(crate) fn written(r: Outcome, n: usize) -> usize
+pub(crate) fn written(r: Result<Answer, Refusal>, n: usize) -> usize
     ensures { result ≡ written_places r n }
 {
     match r {
-        Outcome::Refused(_) => 0,
-        Outcome::Answered(_) => n,
+        Err(_) => 0,
+        Ok(_) => n,
     }
 }
 

@@ -3,7 +3,7 @@ ghost use Rattle.std.specs.Prelude.{◌≡◌};
 ghost use Rattle.protocol.specs.Batch.{batch_call, batch_outcomes, counted_all};
 
 use crate::counts::{count_each, written};
-use protocol::{Outcome, Tally};
+use protocol::{Answer, Refusal, Tally};
 use tally::Tallied;
 
 pub(crate) fn ask_tallied(
@@ -28,7 +28,7 @@ pub(crate) fn tally_of(r: Tallied) -> Tally
     r.tally
 }
 
-pub(crate) fn outcome_of(r: Tallied) -> Outcome
+pub(crate) fn outcome_of(r: Tallied) -> Result<Answer, Refusal>
     ensures { result ≡ r.outcome }
 {
     r.outcome

@@ -2,7 +2,7 @@ ghost use Rattle.std.specs.Prelude.{◌≡◌};
 ghost use Rattle.protocol.specs.Batch.{batch_call, batch_outcomes, counted_all};
 
 use crate::lending::{ask_tallied, outcome_of, tally_of};
-use protocol::{Outcome, Tally};
+use protocol::{Answer, Refusal, Tally};
 
 // The numbers asked at the node as `batches::ask` asks them, with the caller's tally lent. Every slice and every number is taken; a refused
 // question is counted, and a refused call changes nothing, the tally neither.
@@ -12,7 +12,7 @@ pub fn ask(
     numbers: &[u32],
     outcomes: &mut [u32],
     t: &mut Tally,
-) -> Outcome
+) -> Result<Answer, Refusal>
     ensures { (batch_call w.old node numbers.now outcomes.old ≡ record { outcome = result; slice = w.new; output = outcomes.new })
         × (t.new ≡ counted_all t.old (batch_outcomes w.old node numbers.now outcomes.old)) }
 {

@@ -8,10 +8,10 @@ use Rattle.lists.specs.Basics.{when◌then◌else◌, flat}
 use Rattle.lists.specs.Choice.{on_yes, on_no}
 use Rattle.lists.specs.Blocks.{flat_append, length_flat}
 use Rattle.lists.specs.Splice.{splice, splice_at}
-use Rattle.protocol.specs.declared.Outcome.{Outcome}
-use Rattle.protocol.specs.declared.Outcome.TheVariants.{Refused, Answered}
+use Rattle.protocol.specs.Outcomes.{Outcome}
+use Rattle.std.specs.Prelude.{Err, Ok}
 use Rattle.protocol.specs.declared.Answer.TheVariants.{Quiet, Found, Entered, Gone, JoinTurnedAway, LeaveTurnedAway, Joined, Left}
-use Rattle.protocol.specs.Names.{NOT_WELL_FORMED, PLACES_SHORT, RECORD_SHORT, ROUTE_LONG}
+use Rattle.protocol.specs.declared.refusal.Refusal.TheVariants.{NotWellFormed, PlacesShort, RecordShort, RouteLong}
 use Rattle.protocol.specs.Record.{record_size, read}
 use Rattle.protocol.specs.WellFormed.{well_formed}
 use Rattle.protocol.specs.Step.{step, ask}
@@ -54,15 +54,15 @@ each_valid w v hub (u ∷ numbers) =
 -- a place has six words
 pub place_size_lem : (o : Outcome) → length (place_words o) ≡ place_size
 unfolding place_words answer_words
-place_size_lem (Refused k) = refl
-place_size_lem (Answered Quiet) = refl
-place_size_lem (Answered (Found hub number ticket hops)) = refl
-place_size_lem (Answered (Entered hub)) = refl
-place_size_lem (Answered (Gone hub)) = refl
-place_size_lem (Answered (JoinTurnedAway hub)) = refl
-place_size_lem (Answered (LeaveTurnedAway hub)) = refl
-place_size_lem (Answered (Joined hub)) = refl
-place_size_lem (Answered (Left hub)) = refl
+place_size_lem (Err k) = refl
+place_size_lem (Ok Quiet) = refl
+place_size_lem (Ok (Found hub number ticket hops)) = refl
+place_size_lem (Ok (Entered hub)) = refl
+place_size_lem (Ok (Gone hub)) = refl
+place_size_lem (Ok (JoinTurnedAway hub)) = refl
+place_size_lem (Ok (LeaveTurnedAway hub)) = refl
+place_size_lem (Ok (Joined hub)) = refl
+place_size_lem (Ok (Left hub)) = refl
 
 -- an answer's five words, one by one
 pub word_by_word : (l : List ℕ) → length l ≡ 5 → get_or l 0 0 ∷ get_or l 1 0 ∷ get_or l 2 0 ∷ get_or l 3 0 ∷ get_or l 4 0 ∷ [] ≡ l
@@ -96,13 +96,13 @@ up_to w hub numbers i = ask_each w hub (take i numbers)
 
 -- Where i is the number of numbers, that is what the call writes.
 pub all_written : (w : List ℕ) (hub : ℕ) (numbers out : List ℕ) (i : ℕ) (z o : List ℕ) → i ≡ length numbers → z ≡ (up_to w hub numbers i).slice
-    → o ≡ placed out (up_to w hub numbers i).outcomes i → batch_written numbers out (ask_each w hub numbers) ≡ record { outcome = Answered Quiet; slice = z; output = o }
+    → o ≡ placed out (up_to w hub numbers i).outcomes i → batch_written numbers out (ask_each w hub numbers) ≡ record { outcome = Ok Quiet; slice = z; output = o }
 unfolding batch_written
 all_written w hub numbers out i z o e ez eo =
     ap (batch_written numbers out) (sym (ap (λ k. ask_each w hub (take k numbers)) e ∙ ap (ask_each w hub) (take-length numbers)))
-    ∙ ap (λ k. record { outcome = Answered Quiet; slice = (up_to w hub numbers i).slice; output = placed out (up_to w hub numbers i).outcomes k }) (sym e)
-    ∙ ap (λ y. record { outcome = Answered Quiet; slice = y; output = placed out (up_to w hub numbers i).outcomes i }) (sym ez)
-    ∙ ap (λ y. record { outcome = Answered Quiet; slice = z; output = y }) (sym eo)
+    ∙ ap (λ k. record { outcome = Ok Quiet; slice = (up_to w hub numbers i).slice; output = placed out (up_to w hub numbers i).outcomes k }) (sym e)
+    ∙ ap (λ y. record { outcome = Ok Quiet; slice = y; output = placed out (up_to w hub numbers i).outcomes i }) (sym ez)
+    ∙ ap (λ y. record { outcome = Ok Quiet; slice = z; output = y }) (sym eo)
 
 -- What one turn leaves, which asks number i: the slice, and the output with its outcome in place i.
 pub record Turned : Type 0 where
@@ -150,11 +150,11 @@ module _ {A : Type 0} (w numbers out : List ℕ) (no_result : ℕ → A) (rest :
   abbrev call : A
   call = on_batch w numbers out no_result rest
 
-  pub batch_1 : length w < record_size → call ≡ no_result RECORD_SHORT
+  pub batch_1 : length w < record_size → call ≡ no_result RecordShort
   unfolding on_batch
   batch_1 l = record_1 w no_result _ l
 
-  pub batch_2 : record_size ≤ length w → well_formed w ≡ false → call ≡ no_result NOT_WELL_FORMED
+  pub batch_2 : record_size ≤ length w → well_formed w ≡ false → call ≡ no_result NotWellFormed
   unfolding on_batch
   batch_2 l e = record_2 w no_result _ l e
 
@@ -163,12 +163,12 @@ module _ {A : Type 0} (w numbers out : List ℕ) (no_result : ℕ → A) (rest :
     unfolding on_batch
     formed = record_rest w no_result _ v.long v.formed
 
-    pub batch_25 : most_questions < length numbers → call ≡ no_result ROUTE_LONG
+    pub batch_25 : most_questions < length numbers → call ≡ no_result RouteLong
     unfolding fitting
     batch_25 l = formed ∙ on_no _ _ _ (lt-leb (length numbers) most_questions l)
 
     module _ (few : length numbers ≤ most_questions) where
-      pub batch_26 : length out / place_size < length numbers → call ≡ no_result PLACES_SHORT
+      pub batch_26 : length out / place_size < length numbers → call ≡ no_result PlacesShort
       unfolding fitting
       batch_26 l = formed ∙ on_yes _ _ _ (le-leb (length numbers) most_questions few) ∙ on_no _ _ _ (lt-leb (length numbers) (length out / place_size) l)
 

@@ -8,7 +8,7 @@ ghost use Rattle.layout.specs.Form.{Valid};
 ghost use Rattle.batches.specs.Each.{turn};
 
 use answers::answer_words;
-use protocol::Outcome;
+
 use protocol::form::PLACE_WORDS;
 
 // A refusal has its number, and no answer: no old word may be taken for one.
@@ -48,11 +48,11 @@ fn ask_one(w: &mut [u32], node: u32, numbers: &[u32], outcomes: &mut [u32], left
     let next = left - 1;
     let at = PLACE_WORDS * i;
     match steps::ask(w, node, numbers[i]) {
-        Outcome::Refused(k) => {
+        Err(k) => {
             put_refusal(&mut outcomes[at..], k);
             next
         }
-        Outcome::Answered(a) => {
+        Ok(a) => {
             let answer = answer_words(a);
             put_answer(&mut outcomes[at..], &answer);
             next

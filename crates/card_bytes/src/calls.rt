@@ -6,7 +6,7 @@ ghost use Rattle.protocol.specs.CardBytes.{step_cards_bytes, offer_bytes, fresh_
 
 use crate::results::{finish_fresh, finish_offer, finish_step};
 use protocol::form::{BOOK_BYTES, BOOK_WORDS, RECORD_BYTES, RECORD_WORDS};
-use protocol::{Founder, refusals};
+use protocol::Refusal;
 use word_bytes::{load, loaded, loaded_book};
 
 // One command on the record in the lent bytes, with the cards in others. Only the first words of both are loaded: a step looks at nothing behind them.
@@ -21,13 +21,13 @@ pub fn step(
     ensures { step_cards_bytes words.old book.old operation x y out.old ≡ record { code = result; bytes = words.new; book = book.new; output = out.new } }
 {
     if out.len() < 20 {
-        return refusals::OUTPUT_SHORT;
+        return Refusal::OutputShort;
     }
     if words.len() < RECORD_BYTES {
-        return refusals::RECORD_SHORT;
+        return Refusal::RecordShort;
     }
     if book.len() < BOOK_BYTES {
-        return refusals::RECORD_SHORT;
+        return Refusal::RecordShort;
     }
     let mut w = loaded(&words[..]);
     let mut k = loaded_book(&book[..]);
@@ -40,10 +40,10 @@ pub fn offer(words: &[u8], book: &mut [u8], machine: u32, revision: u32, price: 
     ensures { offer_bytes words.now book.old machine revision price ≡ record { code = result; book = book.new } }
 {
     if words.len() < RECORD_BYTES {
-        return refusals::RECORD_SHORT;
+        return Refusal::RecordShort;
     }
     if book.len() < BOOK_BYTES {
-        return refusals::RECORD_SHORT;
+        return Refusal::RecordShort;
     }
     let w = loaded(words);
     let mut k = loaded_book(&book[..]);
@@ -52,18 +52,18 @@ pub fn offer(words: &[u8], book: &mut [u8], machine: u32, revision: u32, price: 
 }
 
 // A ring founded in the lent bytes with its card slice, whoever is to found it. Neither is loaded, since an accepted call writes both whole.
-fn found(words: &mut [u8], book: &mut [u8], identifiers: &[u8], founder: Founder) -> u32
+fn found(words: &mut [u8], book: &mut [u8], identifiers: &[u8], founder: Option<u32>) -> u32
     ensures { fresh_by_cards_bytes words.old book.old identifiers.now (founder_of founder (words_of identifiers.now)) ≡ record { code = result; bytes = words.new; book = book.new } }
 {
     if words.len() < RECORD_BYTES {
-        return refusals::RECORD_SHORT;
+        return Refusal::RecordShort;
     }
     if book.len() < BOOK_BYTES {
-        return refusals::RECORD_SHORT;
+        return Refusal::RecordShort;
     }
     let n = identifiers.len() / 4;
     if 64 < n {
-        return refusals::IDENTIFIER_COUNT;
+        return Refusal::IdentifierCount;
     }
     let mut ids = [0u32; 64];
     load(identifiers, &mut ids, n);
@@ -77,12 +77,12 @@ fn found(words: &mut [u8], book: &mut [u8], identifiers: &[u8], founder: Founder
 pub fn fresh(words: &mut [u8], book: &mut [u8], identifiers: &[u8]) -> u32
     ensures { fresh_cards_bytes words.old book.old identifiers.now ≡ record { code = result; bytes = words.new; book = book.new } }
 {
-    found(words, book, identifiers, Founder::Smallest)
+    found(words, book, identifiers, None)
 }
 
 // By the node that the caller names.
 pub fn fresh_by(words: &mut [u8], book: &mut [u8], identifiers: &[u8], founder: u32) -> u32
     ensures { fresh_by_cards_bytes words.old book.old identifiers.now founder ≡ record { code = result; bytes = words.new; book = book.new } }
 {
-    found(words, book, identifiers, Founder::Named(founder))
+    found(words, book, identifiers, Some(founder))
 }

@@ -3,7 +3,7 @@ ghost use Rattle.std.specs.Prelude.{◌≡◌, List, ℕ, ◌*◌, ◌≤◌, le
 ghost use Rattle.protocol.specs.CardBytes.{carried_cards, taken, founded_cards};
 
 use answers::answer_words;
-use protocol::Outcome;
+use protocol::{Answer, Refusal};
 use word_bytes::save;
 
 // A step that leaves the words w and k.
@@ -13,14 +13,14 @@ pub(crate) fn finish_step(
     out: &mut [u8],
     w: &[u32],
     k: &[u32],
-    r: Outcome,
+    r: Result<Answer, Refusal>,
 ) -> u32
     requires { (4 * length w.now ≤ length words.old) × (4 * length k.now ≤ length book.old) × (20 ≤ length out.old) }
     ensures { carried_cards words.old book.old out.old (record { outcome = r; slice = w.now; cards = k.now }) ≡ record { code = result; bytes = words.new; book = book.new; output = out.new } }
 {
     match r {
-        Outcome::Refused(n) => n,
-        Outcome::Answered(a) => {
+        Err(n) => n,
+        Ok(a) => {
             save(words, w);
             save(book, k);
             let answer = answer_words(a);
@@ -31,13 +31,13 @@ pub(crate) fn finish_step(
 }
 
 // An offer that leaves the words k, whatever the record is. Its answer is quiet, and has nothing to tell.
-pub(crate) fn finish_offer(book: &mut [u8], k: &[u32], r: Outcome) -> u32
+pub(crate) fn finish_offer(book: &mut [u8], k: &[u32], r: Result<Answer, Refusal>) -> u32
     requires { 4 * length k.now ≤ length book.old }
     ensures { (w : List ℕ) → taken book.old (record { outcome = r; slice = w; cards = k.now }) ≡ record { code = result; book = book.new } }
 {
     match r {
-        Outcome::Refused(n) => n,
-        Outcome::Answered(_) => {
+        Err(n) => n,
+        Ok(_) => {
             save(book, k);
             0
         }
@@ -50,14 +50,14 @@ pub(crate) fn finish_fresh(
     book: &mut [u8],
     w: &[u32],
     k: &[u32],
-    r: Outcome,
+    r: Result<Answer, Refusal>,
 ) -> u32
     requires { (4 * length w.now ≤ length words.old) × (4 * length k.now ≤ length book.old) }
     ensures { founded_cards words.old book.old (record { outcome = r; slice = w.now; cards = k.now }) ≡ record { code = result; bytes = words.new; book = book.new } }
 {
     match r {
-        Outcome::Refused(n) => n,
-        Outcome::Answered(_) => {
+        Err(n) => n,
+        Ok(_) => {
             save(words, w);
             save(book, k);
             0

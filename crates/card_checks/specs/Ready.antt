@@ -4,7 +4,7 @@ use Rattle.std.proofs.Common.{◌∙◌, arith, le-leb}
 use Rattle.std.proofs.lemmas.Bool.{lt-leb}
 use Rattle.lists.specs.Choice.{on_yes, on_no}
 use Rattle.lists.specs.Tests.{true_T}
-use Rattle.protocol.specs.Names.{NOT_WELL_FORMED, RECORD_SHORT}
+use Rattle.protocol.specs.declared.refusal.Refusal.TheVariants.{NotWellFormed, RecordShort}
 use Rattle.protocol.specs.Record.{round, most_nodes, record_size, read}
 use Rattle.protocol.specs.WellFormed.{well_formed, identifiers}
 use Rattle.protocol.specs.Cards.{book_size, read_book, book_ok, CardsCalled, unchanged, both_long, on_both}
@@ -16,11 +16,11 @@ use Rattle.cardlayout.specs.Sound.{BookForm, neat, form_of_book}
 use Rattle.card_checks.specs.Homes.{Copied, names_of, ids_size}
 
 module _ (w k : List ℕ) (rest : CardsCalled) where
-  pub long_1 : length w < record_size → both_long w k rest ≡ unchanged w k RECORD_SHORT
+  pub long_1 : length w < record_size → both_long w k rest ≡ unchanged w k RecordShort
   unfolding both_long
   long_1 l = on_no _ _ _ (long_no w l)
 
-  pub long_cards_1 : record_size ≤ length w → length k < book_size → both_long w k rest ≡ unchanged w k RECORD_SHORT
+  pub long_cards_1 : record_size ≤ length w → length k < book_size → both_long w k rest ≡ unchanged w k RecordShort
   unfolding both_long
   long_cards_1 l m = on_yes _ _ _ (long_yes w l) ∙ on_no _ _ _ (lt-leb book_size (length k) m)
 
@@ -29,20 +29,20 @@ module _ (w k : List ℕ) (rest : CardsCalled) where
   long_rest l m = on_yes _ _ _ (long_yes w l) ∙ on_yes _ _ _ (le-leb book_size (length k) m)
 
 module _ (w k : List ℕ) (rest : CardsCalled) where
-  pub both_1 : length w < record_size → on_both w k rest ≡ unchanged w k RECORD_SHORT
+  pub both_1 : length w < record_size → on_both w k rest ≡ unchanged w k RecordShort
   unfolding on_both
   both_1 l = long_1 w k _ l
 
-  pub both_cards_1 : record_size ≤ length w → length k < book_size → on_both w k rest ≡ unchanged w k RECORD_SHORT
+  pub both_cards_1 : record_size ≤ length w → length k < book_size → on_both w k rest ≡ unchanged w k RecordShort
   unfolding on_both
   both_cards_1 l m = long_cards_1 w k _ l m
 
-  pub both_2 : record_size ≤ length w → book_size ≤ length k → well_formed w ≡ false → on_both w k rest ≡ unchanged w k NOT_WELL_FORMED
+  pub both_2 : record_size ≤ length w → book_size ≤ length k → well_formed w ≡ false → on_both w k rest ≡ unchanged w k NotWellFormed
   unfolding on_both
   both_2 l m e = long_rest w k _ l m ∙ on_no _ _ _ e
 
   pub both_cards_2 : record_size ≤ length w → book_size ≤ length k → well_formed w ≡ true → book_ok (identifiers (read w)) k ≡ false
-      → on_both w k rest ≡ unchanged w k NOT_WELL_FORMED
+      → on_both w k rest ≡ unchanged w k NotWellFormed
   unfolding on_both
   both_cards_2 l m e b = long_rest w k _ l m ∙ on_yes _ _ _ e ∙ on_no _ _ _ b
 

@@ -11,7 +11,7 @@ use Rattle.lists.specs.Search.{first_cong}
 use Rattle.lists.specs.Splice.{splice}
 use Rattle.protocol.specs.declared.Card.{Card}
 use Rattle.protocol.specs.declared.Answer.TheVariants.{Quiet}
-use Rattle.protocol.specs.declared.Outcome.TheVariants.{Answered}
+use Rattle.std.specs.Prelude.{Ok}
 use Rattle.protocol.specs.Cards.{most_cards, book_size, card_start, Book, card_words, book_words, cards_in, marks_in, card_from, read_book, no_card, place, Offered, declined, kept, renewed, offered, CardsCalled, unchanged, put_book, offer_written}
 use Rattle.cardlayout.specs.Books.{Neat, read_fits, book_read, count_of_book, put_card_is, push_card_is}
 
@@ -54,9 +54,9 @@ module _ (w k : List ℕ) (j : ℕ) (old c : Card) where
   given = offer_written w k (renewed (read_book k).cards j old c)
 
   pub offer_higher : old.revision < c.revision → (out : List ℕ) → out ≡ put_book k (record { marks = marks_in k; cards = set (read_book k).cards j c })
-      → given ≡ record { outcome = Answered Quiet; slice = w; cards = out }
+      → given ≡ record { outcome = Ok Quiet; slice = w; cards = out }
   unfolding renewed offer_written when◌then◌else◌
-  offer_higher l out e = ap (λ z. offer_written w k (when z then kept (set (read_book k).cards j c) else low)) (lt-ltb _ _ l) ∙ ap (λ z. record { outcome = Answered Quiet; slice = w; cards = z }) (sym e)
+  offer_higher l out e = ap (λ z. offer_written w k (when z then kept (set (read_book k).cards j c) else low)) (lt-ltb _ _ l) ∙ ap (λ z. record { outcome = Ok Quiet; slice = w; cards = z }) (sym e)
     where
       low : Offered
       low = require (nat_eq old.revision c.revision) (declined 22) (require (nat_eq old.price c.price) (declined 23) (kept (read_book k).cards))
@@ -74,11 +74,11 @@ module _ (w k : List ℕ) (j : ℕ) (old c : Card) where
     unfolding offer_written
     offer_23 e ne = lower ∙ ap (offer_written w k) (on_yes _ _ _ (eq-eqb _ _ e) ∙ on_no _ _ _ (ne_eqb _ _ ne))
 
-    pub offer_same : Neat k → old.revision ≡ c.revision → old.price ≡ c.price → given ≡ record { outcome = Answered Quiet; slice = w; cards = k }
+    pub offer_same : Neat k → old.revision ≡ c.revision → old.price ≡ c.price → given ≡ record { outcome = Ok Quiet; slice = w; cards = k }
     unfolding offer_written
     offer_same n e p =
         lower ∙ ap (offer_written w k) (on_yes _ _ _ (eq-eqb _ _ e) ∙ on_yes _ _ _ (eq-eqb _ _ p))
-        ∙ ap (λ z. record { outcome = Answered Quiet; slice = w; cards = z }) (sym (same_is k n))
+        ∙ ap (λ z. record { outcome = Ok Quiet; slice = w; cards = z }) (sym (same_is k n))
 
 -- The whole offer, by where the search for its machine ended.
 module _ (w k : List ℕ) (c : Card) (j : ℕ) (ej : j ≡ first (λ i. nat_eq (get_or k (card_start i) 0) c.machine) (cards_in k)) where
@@ -107,7 +107,7 @@ module _ (w k : List ℕ) (c : Card) (j : ℕ) (ej : j ≡ first (λ i. nat_eq (
     offer_24 m = ap (offer_written w k) (new_one ∙ on_no _ _ _ (le-ltb (length (read_book k).cards) most_cards (omega (arith, count_of_book k))))
 
     pub offer_last : cards_in k < most_cards → (out : List ℕ) → out ≡ put_book k (record { marks = marks_in k; cards = (read_book k).cards ++ (c ∷ []) })
-        → offer_written w k (offered (read_book k).cards c) ≡ record { outcome = Answered Quiet; slice = w; cards = out }
+        → offer_written w k (offered (read_book k).cards c) ≡ record { outcome = Ok Quiet; slice = w; cards = out }
     unfolding offer_written
     offer_last m out e =
-        ap (offer_written w k) (new_one ∙ on_yes _ _ _ (lt-ltb (length (read_book k).cards) most_cards (omega (arith, count_of_book k)))) ∙ ap (λ z. record { outcome = Answered Quiet; slice = w; cards = z }) (sym e)
+        ap (offer_written w k) (new_one ∙ on_yes _ _ _ (lt-ltb (length (read_book k).cards) most_cards (omega (arith, count_of_book k)))) ∙ ap (λ z. record { outcome = Ok Quiet; slice = w; cards = z }) (sym e)

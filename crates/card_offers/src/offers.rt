@@ -8,7 +8,7 @@ ghost use Rattle.cardlayout.specs.Books.{Neat};
 
 use card_checks::{book_ok, names_of, nearest};
 use protocol::form::{BOOK_WORDS, CARD_WORDS, CARDS_AT, MARKS_AT, MOST_CARDS, RECORD_WORDS};
-use protocol::{Answer, Card, Outcome, refusals};
+use protocol::{Answer, Card, Refusal};
 
 // The place of the card of a machine, or the number of cards where there is none.
 fn find_card(k: &[u32], machine: u32) -> u32
@@ -46,7 +46,7 @@ fn put_card(k: &mut [u32], j: u32, c: Card)
 }
 
 // A card of the machine is kept, at place j.
-fn renew(k: &mut [u32], j: u32, c: Card) -> Outcome
+fn renew(k: &mut [u32], j: u32, c: Card) -> Result<Answer, Refusal>
     requires { (Neat k.old) × (j < cards_in k.old) }
     ensures { (w : List ℕ) → offer_written w k.old (renewed (read_book k.old).cards j (get_or (read_book k.old).cards j no_card) c) ≡ record { outcome = result; slice = w; cards = k.new } }
 {
@@ -54,18 +54,18 @@ fn renew(k: &mut [u32], j: u32, c: Card) -> Outcome
     let revision = k[at + 1];
     if revision < c.revision {
         put_card(k, j, c);
-        return Outcome::Answered(Answer::Quiet);
+        return Ok(Answer::Quiet);
     }
     if revision != c.revision {
-        return Outcome::Refused(refusals::REVISION_LOWER);
+        return Err(Refusal::RevisionLower);
     }
     if k[at + 2] != c.price {
-        return Outcome::Refused(refusals::PRICE_DIFFERS);
+        return Err(Refusal::PriceDiffers);
     }
-    Outcome::Answered(Answer::Quiet)
+    Ok(Answer::Quiet)
 }
 
-fn put(k: &mut [u32], c: Card) -> Outcome
+fn put(k: &mut [u32], c: Card) -> Result<Answer, Refusal>
     requires { Neat k.old }
     ensures { (w : List ℕ) → offer_written w k.old (offered (read_book k.old).cards c) ≡ record { outcome = result; slice = w; cards = k.new } }
 {
@@ -77,27 +77,27 @@ fn put(k: &mut [u32], c: Card) -> Outcome
     if m < MOST_CARDS {
         put_card(k, m, c);
         k[0] = m + 1;
-        return Outcome::Answered(Answer::Quiet);
+        return Ok(Answer::Quiet);
     }
-    Outcome::Refused(refusals::CARDS_FULL)
+    Err(Refusal::CardsFull)
 }
 
 // A card offered to the ring of the record: its hub is filled in. The record is only read, and a refusal changes no word of the cards.
-pub fn offer(w: &[u32], k: &mut [u32], machine: u32, revision: u32, price: u32) -> Outcome
+pub fn offer(w: &[u32], k: &mut [u32], machine: u32, revision: u32, price: u32) -> Result<Answer, Refusal>
     ensures { offer_call w.now k.old machine revision price ≡ record { outcome = result; slice = w.now; cards = k.new } }
 {
     if w.len() < RECORD_WORDS {
-        return Outcome::Refused(refusals::RECORD_SHORT);
+        return Err(Refusal::RecordShort);
     }
     if k.len() < BOOK_WORDS {
-        return Outcome::Refused(refusals::RECORD_SHORT);
+        return Err(Refusal::RecordShort);
     }
     if !wellformed::well_formed(w) {
-        return Outcome::Refused(refusals::NOT_WELL_FORMED);
+        return Err(Refusal::NotWellFormed);
     }
     let names = names_of(w);
     if !book_ok(w, &names, k) {
-        return Outcome::Refused(refusals::NOT_WELL_FORMED);
+        return Err(Refusal::NotWellFormed);
     }
     let hub = nearest(&names, &k[MARKS_AT..CARDS_AT], machine);
     put(

@@ -4,8 +4,8 @@ use Rattle.std.proofs.Common.{sym, ◌∙◌, ap, subst, arith, length-append, l
 use Rattle.std.proofs.Math.Decide.{dec_lt}
 use Rattle.std.proofs.Math.ListN.{get_or-append}
 use Rattle.protocol.specs.declared.Answer.{Answer}
-use Rattle.protocol.specs.declared.Outcome.{Outcome}
-use Rattle.protocol.specs.declared.Outcome.TheVariants.{Refused, Answered}
+use Rattle.protocol.specs.Outcomes.{Outcome}
+use Rattle.std.specs.Prelude.{Err, Ok}
 use Rattle.protocol.specs.Record.{record_size, count, read, words}
 use Rattle.protocol.specs.WellFormed.{identifiers}
 use Rattle.protocol.specs.Step.{Result, refused, step}
@@ -33,22 +33,22 @@ pub put_back : (w slice saved : List ℕ) → saved ≡ take record_size w → d
 put_back w slice saved e q = ap (λ z. z ++ drop record_size slice) e ∙ ap (λ z. take record_size w ++ z) q ∙ take-append-drop record_size w
 
 -- the hub that an answer moves is one of the record's
-pub refused_answered : {number : ℕ} {a : Answer} → Refused number ≡ Answered a → ⊥
+pub refused_answered : {number : ℕ} {a : Answer} → Err number ≡ Ok a → ⊥
 refused_answered e = subst is_refused e tt
   where
     is_refused : Outcome → Type 0
-    is_refused = elim [ Refused j ↦ Unit {0} | Answered x ↦ ⊥ ]
+    is_refused = elim [ Err j ↦ Unit {0} | Ok x ↦ ⊥ ]
 
-is_bound : (w : List ℕ) (a : Answer) (r : Result) → Bounded (count (read w)) r → (written w r).outcome ≡ Answered a → Bound (count (read w)) a
+is_bound : (w : List ℕ) (a : Answer) (r : Result) → Bounded (count (read w)) r → (written w r).outcome ≡ Ok a → Bound (count (read w)) a
 unfolding written
 is_bound w a (refused z) b e = absurd (refused_answered e)
 is_bound w a (went x s) b e = subst (Bound (count (read w))) (ap answer_in e) b
   where
     answer_in : Outcome → Answer
-    answer_in = elim [ Refused j ↦ x | Answered y ↦ y ]
+    answer_in = elim [ Err j ↦ x | Ok y ↦ y ]
 
 pub answer_bound : (w slice : List ℕ) (operation x y : ℕ) (o : Outcome) (a : Answer) → Valid w → written w (step (read w) operation x y) ≡ record { outcome = o; slice = slice }
-    → o ≡ Answered a → Bound (length (identifiers (read w))) a
+    → o ≡ Ok a → Bound (length (identifiers (read w))) a
 answer_bound w slice operation x y o a v e g =
     subst (λ z. Bound z a) (count_of_read w ∙ sym (ids_size w))
     (is_bound w a (step (read w) operation x y) (step_bounded (read w) (valid_form w v) operation x y) (ap (λ c. c.outcome) e ∙ g))
@@ -80,7 +80,7 @@ restored_all w saved now l e f g =
         ∙ sym (get_or-append-add saved (drop (length saved) w) (i - length saved) 0) ∙ ap (λ z. get_or (saved ++ drop (length saved) w) z 0) q
 
 -- a refused step has written nothing
-pub refused_kept : (w slice : List ℕ) (o : Outcome) (number : ℕ) (r : Result) → written w r ≡ record { outcome = o; slice = slice } → o ≡ Refused number → slice ≡ w
+pub refused_kept : (w slice : List ℕ) (o : Outcome) (number : ℕ) (r : Result) → written w r ≡ record { outcome = o; slice = slice } → o ≡ Err number → slice ≡ w
 unfolding written
 refused_kept w slice o number (refused z) e g = sym (ap (λ c. c.slice) e)
 refused_kept w slice o number (went a s) e g = absurd (refused_answered (sym (ap (λ c. c.outcome) e ∙ g)))

@@ -13,7 +13,8 @@ use Rattle.protocol.specs.declared.Answer.TheVariants.{Quiet, Found, Entered, Go
 use Rattle.protocol.specs.declared.Route.{Route}
 use Rattle.protocol.specs.declared.Route.TheVariants.{Own, To}
 use Rattle.protocol.specs.declared.Decision.{Decision}
-use Rattle.protocol.specs.declared.Decision.TheVariants.{Refuse, Reply, Send}
+use Rattle.protocol.specs.declared.Decision.TheVariants.{Reply, Send}
+use Rattle.std.specs.Prelude.{Err, Ok}
 use Rattle.protocol.specs.Record.{State, count, row, without_message, message, no_message}
 use Rattle.protocol.specs.Routing.{in_ring}
 use Rattle.protocol.specs.WellFormed.{names_node}
@@ -46,12 +47,12 @@ bound_more n m (Left hub) l b = tt
 
 module _ (n : ℕ) where
   abbrev Mild : Decision → Type 0
-  Mild (Refuse k) = Unit {0}
-  Mild (Reply v a) = Bound n a
-  Mild (Send v u a) = Bound n a
+  Mild (Err k) = Unit {0}
+  Mild (Ok (Reply v a)) = Bound n a
+  Mild (Ok (Send v u a)) = Bound n a
 
-  if_else : (b : Bool) (x : Decision) → Mild x → Mild (when b then x else Refuse 10)
-  if_else b x f = choose Mild b x (Refuse 10) (λ _. f) (λ _. tt)
+  if_else : (b : Bool) (x : Decision) → Mild x → Mild (when b then x else Err 10)
+  if_else b x f = choose Mild b x (Err 10) (λ _. f) (λ _. tt)
 
   module _ (h : Row) (asked : ℕ) (m : Message) (M : MessageForm n asked m) where
     lookup_routed_lem : (r : Route) → Mild (lookup_routed h m r)
@@ -93,9 +94,9 @@ module _ (s : State) (f : Form s) where
 
   decided : (j t : ℕ) (d : Decision) → Mild n d → Bounded n (conclude (without_message s j) t d)
   unfolding conclude
-  decided j t (Refuse k) x = tt
-  decided j t (Reply v a) x = x
-  decided j t (Send v u a) x = x
+  decided j t (Err k) x = tt
+  decided j t (Ok (Reply v a)) x = x
+  decided j t (Ok (Send v u a)) x = x
 
   deliver_bounded : (x y : ℕ) → Bounded n (step.deliver s x y)
   unfolding step.deliver delivered

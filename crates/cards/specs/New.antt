@@ -4,9 +4,9 @@ use Rattle.std.proofs.Common.{sym, ◌∙◌, one-add, arith}
 use Rattle.std.proofs.Math.Path.{ap}
 use Rattle.std.proofs.lemmas.List.{replicate-append-replicate, length-replicate}
 use Rattle.protocol.specs.declared.Answer.{Answer}
-use Rattle.protocol.specs.declared.Outcome.{Outcome}
-use Rattle.protocol.specs.declared.Outcome.TheVariants.{Refused, Answered}
-use Rattle.protocol.specs.Names.{RECORD_SHORT}
+use Rattle.protocol.specs.Outcomes.{Outcome}
+use Rattle.std.specs.Prelude.{Err, Ok}
+use Rattle.protocol.specs.declared.refusal.Refusal.TheVariants.{RecordShort}
 use Rattle.protocol.specs.Record.{most_nodes, record_size}
 use Rattle.protocol.specs.Calls.{written, fresh_by_call}
 use Rattle.protocol.specs.Cards.{book_size, Book, book_words, unchanged, new_book, put_book, with_new_book, fresh_by_cards}
@@ -17,22 +17,22 @@ use Rattle.cards.specs.Asked.{refused_answered}
 
 -- What a fresh call leaves where it refuses, and where it answers.
 module _ (w ids : List ℕ) (founder : ℕ) where
-  fresh_kept : (number : ℕ) → (fresh_by_call w ids founder).outcome ≡ Refused number → (fresh_by_call w ids founder).slice ≡ w
+  fresh_kept : (number : ℕ) → (fresh_by_call w ids founder).outcome ≡ Err number → (fresh_by_call w ids founder).slice ≡ w
   unfolding written
   fresh_kept number =
-      fresh_cases w ids founder (λ z. z.outcome ≡ Refused number → z.slice ≡ w) (λ k l m e. refl) (λ a e. absurd (refused_answered (sym e)))
+      fresh_cases w ids founder (λ z. z.outcome ≡ Err number → z.slice ≡ w) (λ k l m e. refl) (λ a e. absurd (refused_answered (sym e)))
 
-  pub fresh_below : (o : Outcome) (slice : List ℕ) (a : Answer) → fresh_by_call w ids founder ≡ record { outcome = o; slice = slice } → o ≡ Answered a → founder < most_nodes
+  pub fresh_below : (o : Outcome) (slice : List ℕ) (a : Answer) → fresh_by_call w ids founder ≡ record { outcome = o; slice = slice } → o ≡ Ok a → founder < most_nodes
   fresh_below o slice a e g =
-      fresh_cases w ids founder (λ z. z.outcome ≡ Answered a → founder < most_nodes) (λ k l m q. absurd (refused_answered q))
+      fresh_cases w ids founder (λ z. z.outcome ≡ Ok a → founder < most_nodes) (λ k l m q. absurd (refused_answered q))
       (λ s q. omega (arith, s.below, s.few)) (ap (λ z. z.outcome) e ∙ g)
 
 module _ (w k ids : List ℕ) (founder : ℕ) where
-  pub new_1 : length w < record_size → fresh_by_cards w k ids founder ≡ unchanged w k RECORD_SHORT
+  pub new_1 : length w < record_size → fresh_by_cards w k ids founder ≡ unchanged w k RecordShort
   unfolding fresh_by_cards
   new_1 l = long_1 w k _ l
 
-  pub new_cards_1 : record_size ≤ length w → length k < book_size → fresh_by_cards w k ids founder ≡ unchanged w k RECORD_SHORT
+  pub new_cards_1 : record_size ≤ length w → length k < book_size → fresh_by_cards w k ids founder ≡ unchanged w k RecordShort
   unfolding fresh_by_cards
   new_cards_1 l m = long_cards_1 w k _ l m
 
@@ -41,17 +41,17 @@ module _ (w k ids : List ℕ) (founder : ℕ) where
     unfolding fresh_by_cards
     rest = long_rest w k _ l m ∙ ap (λ z. with_new_book w k founder z.slice z.outcome) e
 
-    pub new_refused : (number : ℕ) → o ≡ Refused number → fresh_by_cards w k ids founder ≡ record { outcome = Refused number; slice = slice; cards = k }
+    pub new_refused : (number : ℕ) → o ≡ Err number → fresh_by_cards w k ids founder ≡ record { outcome = Err number; slice = slice; cards = k }
     unfolding with_new_book
     new_refused number g =
         rest ∙ ap (with_new_book w k founder slice) g
-        ∙ ap (λ z. record { outcome = Refused number; slice = z; cards = k }) (sym (sym (ap (λ z. z.slice) e) ∙ fresh_kept w ids founder number (ap (λ z. z.outcome) e ∙ g)))
+        ∙ ap (λ z. record { outcome = Err number; slice = z; cards = k }) (sym (sym (ap (λ z. z.slice) e) ∙ fresh_kept w ids founder number (ap (λ z. z.outcome) e ∙ g)))
 
-    pub new_made : (a : Answer) → o ≡ Answered a → (hub : ℕ) → hub ≡ founder → (out : List ℕ) → out ≡ put_book k (new_book hub)
-        → fresh_by_cards w k ids founder ≡ record { outcome = Answered a; slice = slice; cards = out }
+    pub new_made : (a : Answer) → o ≡ Ok a → (hub : ℕ) → hub ≡ founder → (out : List ℕ) → out ≡ put_book k (new_book hub)
+        → fresh_by_cards w k ids founder ≡ record { outcome = Ok a; slice = slice; cards = out }
     unfolding with_new_book
     new_made a g hub h out q =
-        rest ∙ ap (with_new_book w k founder slice) g ∙ ap (λ z. record { outcome = Answered a; slice = slice; cards = z }) (sym (q ∙ ap (λ z. put_book k (new_book z)) h))
+        rest ∙ ap (with_new_book w k founder slice) g ∙ ap (λ z. record { outcome = Ok a; slice = slice; cards = z }) (sym (q ∙ ap (λ z. put_book k (new_book z)) h))
 
 -- A new book, written over cleared words.
 abbrev empty : Book

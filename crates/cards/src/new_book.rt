@@ -6,7 +6,7 @@ ghost use Rattle.protocol.specs.Cards.{book_size, new_book, put_book, fresh_card
 
 use founding::founding_node;
 use protocol::form::{BOOK_WORDS, MARKS_AT, RECORD_WORDS};
-use protocol::{Founder, Outcome, refusals};
+use protocol::{Answer, Refusal};
 
 // The words of a new book, written over whatever the slice came with.
 fn write_new(k: &mut [u32], node: usize)
@@ -18,35 +18,35 @@ fn write_new(k: &mut [u32], node: usize)
 }
 
 // A ring founded with its card slice, whoever is to found it. Fresh asks all its questions before it writes, so a refusal changes no word of either.
-pub fn found(w: &mut [u32], k: &mut [u32], identifiers: &[u32], founder: Founder) -> Outcome
+pub fn found(w: &mut [u32], k: &mut [u32], identifiers: &[u32], founder: Option<u32>) -> Result<Answer, Refusal>
     ensures { fresh_by_cards w.old k.old identifiers.now (founder_of founder identifiers.now) ≡ record { outcome = result; slice = w.new; cards = k.new } }
 {
     if w.len() < RECORD_WORDS {
-        return Outcome::Refused(refusals::RECORD_SHORT);
+        return Err(Refusal::RecordShort);
     }
     if k.len() < BOOK_WORDS {
-        return Outcome::Refused(refusals::RECORD_SHORT);
+        return Err(Refusal::RecordShort);
     }
     let r = founding::found(w, identifiers, founder);
     match r {
-        Outcome::Refused(number) => Outcome::Refused(number),
-        Outcome::Answered(a) => {
+        Err(number) => Err(number),
+        Ok(a) => {
             write_new(k, founding_node(founder, identifiers));
-            Outcome::Answered(a)
+            Ok(a)
         }
     }
 }
 
 // A ring with its cards, founded by the node with the smallest identifier.
-pub fn fresh(w: &mut [u32], k: &mut [u32], identifiers: &[u32]) -> Outcome
+pub fn fresh(w: &mut [u32], k: &mut [u32], identifiers: &[u32]) -> Result<Answer, Refusal>
     ensures { fresh_cards w.old k.old identifiers.now ≡ record { outcome = result; slice = w.new; cards = k.new } }
 {
-    found(w, k, identifiers, Founder::Smallest)
+    found(w, k, identifiers, None)
 }
 
 // The same, founded by the node that the caller names.
-pub fn fresh_by(w: &mut [u32], k: &mut [u32], identifiers: &[u32], founder: u32) -> Outcome
+pub fn fresh_by(w: &mut [u32], k: &mut [u32], identifiers: &[u32], founder: u32) -> Result<Answer, Refusal>
     ensures { fresh_by_cards w.old k.old identifiers.now founder ≡ record { outcome = result; slice = w.new; cards = k.new } }
 {
-    found(w, k, identifiers, Founder::Named(founder))
+    found(w, k, identifiers, Some(founder))
 }

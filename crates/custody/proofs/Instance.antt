@@ -6,7 +6,7 @@ use native.Mathlib.Omega.{arith}
 use Rattle.lists.specs.Basics.{when◌then◌else◌, All, every, first, distinct}
 use Rattle.lists.specs.Choice.{granted}
 use Rattle.protocol.specs.declared.Answer.TheVariants.{Quiet}
-use Rattle.protocol.specs.declared.Outcome.TheVariants.{Answered}
+use Rattle.std.specs.Prelude.{Ok}
 use Rattle.protocol.specs.Record.{record_size}
 use Rattle.protocol.specs.Fresh.{smallest}
 use Rattle.protocol.specs.Calls.{long}
@@ -18,11 +18,11 @@ use Rattle.custody.specs.Instance.{Going, on_tour}
 use Rattle.custody.proofs.Theorem.{custody}
 
 module _ (slice book : List ℕ) (l : record_size ≤ length slice) (m : book_size ≤ length book) (calls : List CardCall) (a : All InWords calls) where
-  accepted : (founder : ℕ) → T (nat_lt founder 2) → (fresh_by_cards slice book two founder).outcome ≡ Answered Quiet
+  accepted : (founder : ℕ) → T (nat_lt founder 2) → (fresh_by_cards slice book two founder).outcome ≡ Ok Quiet
   unfolding fresh_by_cards both_long long with_new_book distinct every
   accepted founder below =
-      granted (λ (z : CardsCalled). z.outcome ≡ Answered Quiet) _ _ _ (le→leb _ _ l)
-      (granted (λ (z : CardsCalled). z.outcome ≡ Answered Quiet) _ _ _ (le→leb _ _ m)
+      granted (λ (z : CardsCalled). z.outcome ≡ Ok Quiet) _ _ _ (le→leb _ _ l)
+      (granted (λ (z : CardsCalled). z.outcome ≡ Ok Quiet) _ _ _ (le→leb _ _ m)
       (ap (λ z. (with_new_book slice book founder z.slice z.outcome).outcome) (fresh_gives slice two founder l below tt tt)))
 
   pub two_hubs_with_cards : (founder : ℕ) → T (nat_lt founder 2) → Going (fresh_by_cards slice book two founder) slice founder calls

@@ -12,7 +12,7 @@ use Rattle.lists.specs.Members.{mem_map, mem_set, mem_split, place}
 use Rattle.lists.specs.Search.{Located, Missed, search_ends}
 use Rattle.lists.specs.Tests.{→eqb, Distinct}
 use Rattle.protocol.specs.declared.Card.{Card}
-use Rattle.protocol.specs.Names.{CARDS_FULL}
+use Rattle.protocol.specs.declared.refusal.Refusal.TheVariants.{CardsFull}
 use Rattle.protocol.specs.Cards.{most_cards, declined, kept, no_card, renewed, offered}
 use Rattle.custody.specs.Custody.{put, priced}
 use Rattle.custody.specs.Offers.{Fair}
@@ -108,7 +108,7 @@ module _ (cards : List Card) (c : Card) (some : length cards ≤ most_cards) whe
     where
       go : Located alike (length cards) ⊎ Missed alike (length cards)
           → Fair cards c (when nat_lt at (length cards) then renewed cards at (get_or cards at no_card) c
-          else require (nat_lt (length cards) most_cards) (declined CARDS_FULL) (kept (cards ++ (c ∷ []))))
+          else require (nat_lt (length cards) most_cards) (declined CardsFull) (kept (cards ++ (c ∷ []))))
       go (inl f) =
           choose (Fair cards c) (nat_lt at (length cards)) _ _
           (λ _. renews at f.below (eqb-true _ _ f.here) (λ i l. eqb-false _ _ (f.before i l)))

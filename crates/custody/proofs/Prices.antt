@@ -6,8 +6,8 @@ use mathlib.Core.List.{List, [], ◌∷◌, map}
 use Rattle.std.proofs.Math.ListN.{length-set, length-map}
 use Rattle.lists.specs.Choice.{tested}
 use Rattle.protocol.specs.declared.Answer.TheVariants.{Quiet, Found, Entered, Gone, JoinTurnedAway, LeaveTurnedAway, Joined, Left}
-use Rattle.protocol.specs.declared.Outcome.{Outcome}
-use Rattle.protocol.specs.declared.Outcome.TheVariants.{Refused, Answered}
+use Rattle.protocol.specs.Outcomes.{Outcome}
+use Rattle.std.specs.Prelude.{Err, Ok}
 use Rattle.protocol.specs.Record.{read}
 use Rattle.protocol.specs.WellFormed.{identifiers}
 use Rattle.protocol.specs.Calls.{step_call}
@@ -42,7 +42,7 @@ module _ (w k : List ℕ) where
       Right : CardsCalled → Type 0
       Right z = after z ≡ prices_then prices c z.outcome
 
-      as_it_was : (c : CardCall) (number : ℕ) → prices ≡ prices_then prices c (Refused number)
+      as_it_was : (c : CardCall) (number : ℕ) → prices ≡ prices_then prices c (Err number)
       as_it_was (step s) number = refl
       as_it_was (offer o) number = refl
       as_it_was (route r) number = refl
@@ -58,15 +58,15 @@ module _ (w k : List ℕ) where
 
   answered : Neat k → (slice : List ℕ) (o : Outcome) → after (after_call w k slice o) ≡ prices
   unfolding after_call following
-  answered n slice (Refused number) = refl
-  answered n slice (Answered Quiet) = refl
-  answered n slice (Answered (Found hub number ticket hops)) = refl
-  answered n slice (Answered (Entered hub)) = moved_prices n hub 1
-  answered n slice (Answered (Gone hub)) = tested (λ z. after z ≡ prices) _ _ _ refl (λ _. moved_prices n hub 0)
-  answered n slice (Answered (JoinTurnedAway hub)) = refl
-  answered n slice (Answered (LeaveTurnedAway hub)) = refl
-  answered n slice (Answered (Joined hub)) = refl
-  answered n slice (Answered (Left hub)) = refl
+  answered n slice (Err number) = refl
+  answered n slice (Ok Quiet) = refl
+  answered n slice (Ok (Found hub number ticket hops)) = refl
+  answered n slice (Ok (Entered hub)) = moved_prices n hub 1
+  answered n slice (Ok (Gone hub)) = tested (λ z. after z ≡ prices) _ _ _ refl (λ _. moved_prices n hub 0)
+  answered n slice (Ok (JoinTurnedAway hub)) = refl
+  answered n slice (Ok (LeaveTurnedAway hub)) = refl
+  answered n slice (Ok (Joined hub)) = refl
+  answered n slice (Ok (Left hub)) = refl
 
   offering : Neat k → (o : Offer) (hub : ℕ) (x : Offered) → Fair (read_book k).cards (record { machine = o.machine; revision = o.revision; price = o.price; hub = hub }) x
       → after (offer_written w k x) ≡ prices_then prices (offer o) (offer_written w k x).outcome

@@ -14,9 +14,9 @@ use Rattle.lists.specs.Tests.{Distinct}
 use Rattle.protocol.specs.declared.Card.{Card}
 use Rattle.protocol.specs.declared.Message.{Message}
 use Rattle.protocol.specs.declared.Answer.TheVariants.{Quiet, Found, Entered, Gone, JoinTurnedAway, LeaveTurnedAway, Joined, Left}
-use Rattle.protocol.specs.declared.Outcome.{Outcome}
-use Rattle.protocol.specs.declared.Outcome.TheVariants.{Refused, Answered}
-use Rattle.protocol.specs.Names.{RECORD_SHORT}
+use Rattle.protocol.specs.Outcomes.{Outcome}
+use Rattle.std.specs.Prelude.{Err, Ok}
+use Rattle.protocol.specs.declared.refusal.Refusal.TheVariants.{RecordShort}
 use Rattle.protocol.specs.Record.{most_nodes, State, count, outside, read}
 use Rattle.protocol.specs.WellFormed.{identifiers, well_formed}
 use Rattle.protocol.specs.Step as meaning
@@ -44,12 +44,12 @@ use Rattle.custody.proofs.Offers.{offer_fair}
 use Rattle.custody.specs.Kept.{Ledger, Kept, to_marked, from_marked, book_form, moves, takes}
 
 -- A step without cards leaves the slice where it is refused.
-refused_same : (w : List ℕ) (c : Call) (number : ℕ) → (called present w c).outcome ≡ Refused number → (called present w c).slice ≡ w
+refused_same : (w : List ℕ) (c : Call) (number : ℕ) → (called present w c).outcome ≡ Err number → (called present w c).slice ≡ w
 unfolding step_call on_record written
 refused_same w c number = tested Same _ _ _ (λ e. refl) (λ _. tested Same _ _ _ (λ e. refl) (λ _. of_result (meaning.step (read w) c.operation c.x c.y)))
   where
     Same : Called → Type 0
-    Same z = z.outcome ≡ Refused number → z.slice ≡ w
+    Same z = z.outcome ≡ Err number → z.slice ≡ w
 
     of_result : (r : Result) → Same (written w r)
     of_result (refused k) e = refl
@@ -165,27 +165,27 @@ module _ (ids : List ℕ) (founder : ℕ) (rest : List ℕ) where
           (λ h ne l. get_or-set_other b.marks hub h 0 0 ne ∙ K.marks h l ∙ sym (struck_other (members events) hub h ne))
 
       -- where a hub is gone, another one is marked: the last question is answered yes
-      one_left : (hub : ℕ) → Way (next (Answered (Gone hub))) v → T (nat_le 1 (length (marked (set (marks_in k) hub 0))))
+      one_left : (hub : ℕ) → Way (next (Ok (Gone hub))) v → T (nat_le 1 (length (marked (set (marks_in k) hub 0))))
       unfolding after_outcome
       one_left hub r =
-          let M = subst (Ledger ids) (after (Answered (Gone hub))) (ledger_of r) in
+          let M = subst (Ledger ids) (after (Ok (Gone hub))) (ledger_of r) in
           let m = to_marked M (set b.marks hub 0) (length-set b.marks hub 0 ∙ K.fits.marks) (gone_says hub) M.some.0 M.some.1 in
           subst (λ z. T (nat_le 1 (length (marked (set z hub 0))))) (sym marks_are)
           (le→leb 1 _ (member_some (marked (set b.marks hub 0)) M.some.0 (marked_mem (set b.marks hub 0) M.some.0 m)))
 
-      follows : (o : Outcome) → ((number : ℕ) → o ≡ Refused number → v ≡ w) → Way (next o) v → Followed c o v (after_call w k v o)
+      follows : (o : Outcome) → ((number : ℕ) → o ≡ Err number → v ≡ w) → Way (next o) v → Followed c o v (after_call w k v o)
       unfolding after_call following after_outcome
-      follows (Refused number) same r = record { outcome = refl; slice = sym (same number refl); stage = still (Refused number) refl r }
-      follows (Answered Quiet) same r = record { outcome = refl; slice = refl; stage = still (Answered Quiet) refl r }
-      follows (Answered (Found hub number ticket hops)) same r = record { outcome = refl; slice = refl; stage = still _ refl r }
-      follows (Answered (JoinTurnedAway hub)) same r = record { outcome = refl; slice = refl; stage = still _ refl r }
-      follows (Answered (LeaveTurnedAway hub)) same r = record { outcome = refl; slice = refl; stage = still _ refl r }
-      follows (Answered (Joined hub)) same r = record { outcome = refl; slice = refl; stage = still _ refl r }
-      follows (Answered (Left hub)) same r = record { outcome = refl; slice = refl; stage = still _ refl r }
-      follows (Answered (Entered hub)) same r = record { outcome = refl; slice = refl; stage = moving (Answered (Entered hub)) hub 1 (entered_says hub) r }
-      follows (Answered (Gone hub)) same r =
-          granted (Followed c (Answered (Gone hub)) v) _ _ _ (one_left hub r)
-          (record { outcome = refl; slice = refl; stage = moving (Answered (Gone hub)) hub 0 (gone_says hub) r })
+      follows (Err number) same r = record { outcome = refl; slice = sym (same number refl); stage = still (Err number) refl r }
+      follows (Ok Quiet) same r = record { outcome = refl; slice = refl; stage = still (Ok Quiet) refl r }
+      follows (Ok (Found hub number ticket hops)) same r = record { outcome = refl; slice = refl; stage = still _ refl r }
+      follows (Ok (JoinTurnedAway hub)) same r = record { outcome = refl; slice = refl; stage = still _ refl r }
+      follows (Ok (LeaveTurnedAway hub)) same r = record { outcome = refl; slice = refl; stage = still _ refl r }
+      follows (Ok (Joined hub)) same r = record { outcome = refl; slice = refl; stage = still _ refl r }
+      follows (Ok (Left hub)) same r = record { outcome = refl; slice = refl; stage = still _ refl r }
+      follows (Ok (Entered hub)) same r = record { outcome = refl; slice = refl; stage = moving (Ok (Entered hub)) hub 1 (entered_says hub) r }
+      follows (Ok (Gone hub)) same r =
+          granted (Followed c (Ok (Gone hub)) v) _ _ _ (one_left hub r)
+          (record { outcome = refl; slice = refl; stage = moving (Ok (Gone hub)) hub 0 (gone_says hub) r })
 
     -- one step, with cards and without
     stepped : (c : Call) → ThreeWords c → Followed c (called present w c).outcome (called present w c).slice (made w k (step c))
@@ -196,7 +196,7 @@ module _ (ids : List ℕ) (founder : ℕ) (rest : List ℕ) where
         (runs ids founder present present_laws Some (some_kept ids) events w S.course (c ∷ []) (t, tt)))
 
     -- a delivery on a link where something waits
-    delivers : Claims present ids founder events w → (m : Message) → Mem m (read w).messages → (number : ℕ) → (step_cards w k 3 m.from m.to).outcome ≡ Refused number → ⊥
+    delivers : Claims present ids founder events w → (m : Message) → Mem m (read w).messages → (number : ℕ) → (step_cards w k 3 m.from m.to).outcome ≡ Err number → ⊥
     delivers claims m i number e =
         claims.next m i number (sym (stepped (record { operation = 3; x = m.from; y = m.to }) words).outcome ∙ e)
       where
@@ -370,23 +370,23 @@ steps_words (route r ∷ calls) a = all_append ThreeWords (asks r) (steps calls)
 
 -- What a fresh call with cards has accepted, and what it wrote.
 record Made (slice book ids : List ℕ) (founder : ℕ) : Type 0 where
-  founded : (fresh_by_call slice ids founder).outcome ≡ Answered Quiet
+  founded : (fresh_by_call slice ids founder).outcome ≡ Ok Quiet
   is_record : (fresh_by_cards slice book ids founder).slice ≡ (fresh_by_call slice ids founder).slice
   is_cards : (fresh_by_cards slice book ids founder).cards ≡ book_words (new_book founder) ++ drop book_size book
 
-cards_made : (slice book ids : List ℕ) (founder : ℕ) → (fresh_by_cards slice book ids founder).outcome ≡ Answered Quiet → Made slice book ids founder
+cards_made : (slice book ids : List ℕ) (founder : ℕ) → (fresh_by_cards slice book ids founder).outcome ≡ Ok Quiet → Made slice book ids founder
 unfolding fresh_by_cards both_long require when◌then◌else◌ with_new_book put_book
 cards_made slice book ids founder e =
     let r = go (long slice) (nat_le book_size (length book)) (fresh_by_call slice ids founder).slice (fresh_by_call slice ids founder).outcome e in
     record { founded = r.0; is_record = r.1; is_cards = r.2 }
   where
     given : Bool → Bool → List ℕ → Outcome → CardsCalled
-    given a b l o = require a (unchanged slice book RECORD_SHORT) (require b (unchanged slice book RECORD_SHORT) (with_new_book slice book founder l o))
+    given a b l o = require a (unchanged slice book RecordShort) (require b (unchanged slice book RecordShort) (with_new_book slice book founder l o))
 
-    go : (a b : Bool) (l : List ℕ) (o : Outcome) → (given a b l o).outcome ≡ Answered Quiet
-        → (o ≡ Answered Quiet) × ((given a b l o).slice ≡ l) × ((given a b l o).cards ≡ book_words (new_book founder) ++ drop book_size book)
-    go true true l (Answered a) e = (e, refl, refl)
-    go true true l (Refused k) e = absurd (refused_answered e)
+    go : (a b : Bool) (l : List ℕ) (o : Outcome) → (given a b l o).outcome ≡ Ok Quiet
+        → (o ≡ Ok Quiet) × ((given a b l o).slice ≡ l) × ((given a b l o).cards ≡ book_words (new_book founder) ++ drop book_size book)
+    go true true l (Ok a) e = (e, refl, refl)
+    go true true l (Err k) e = absurd (refused_answered e)
     go true false l o e = absurd (refused_answered e)
     go false b l o e = absurd (refused_answered e)
 

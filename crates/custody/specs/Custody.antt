@@ -7,8 +7,8 @@ use Rattle.lists.specs.Basics.{when◌then◌else◌, Mem, All}
 use Rattle.protocol.specs.declared.Card.{Card}
 use Rattle.protocol.specs.declared.Message.{Message}
 use Rattle.protocol.specs.declared.Answer.TheVariants.{Quiet}
-use Rattle.protocol.specs.declared.Outcome.{Outcome}
-use Rattle.protocol.specs.declared.Outcome.TheVariants.{Refused, Answered}
+use Rattle.protocol.specs.Outcomes.{Outcome}
+use Rattle.std.specs.Prelude.{Err, Ok}
 use Rattle.protocol.specs.Record.{most_nodes, read}
 use Rattle.protocol.specs.Membership.{founding_members, mark, node, owner_among}
 use Rattle.protocol.specs.Calls.{fresh_by_call}
@@ -113,8 +113,8 @@ put (x ∷ prices) o = when nat_eq x.machine o.machine then o ∷ prices else x 
 -- It is fed by the accepted offers alone.
 abbrev pub prices_then : List Offer → CardCall → Outcome → List Offer
 prices_then prices (step c) outcome = prices
-prices_then prices (offer o) (Refused number) = prices
-prices_then prices (offer o) (Answered a) = put prices o
+prices_then prices (offer o) (Err number) = prices
+prices_then prices (offer o) (Ok a) = put prices o
 prices_then prices (route r) outcome = prices
 
 unfoldable pub prices_after : List Offer → List CardEvent → List Offer
@@ -133,7 +133,7 @@ pub record Lent (ids : List ℕ) (founder : ℕ) (events : List CardEvent) (w k 
   pub calls : List CardCall
   pub small : All Word ids
   pub commands : All InWords calls
-  pub accepted : (fresh_by_cards slice book ids founder).outcome ≡ Answered Quiet
+  pub accepted : (fresh_by_cards slice book ids founder).outcome ≡ Ok Quiet
   pub happened : events ≡ card_history (fresh_by_cards slice book ids founder).slice (fresh_by_cards slice book ids founder).cards calls
   pub is_record : w ≡ words_after (fresh_by_cards slice book ids founder).slice (fresh_by_cards slice book ids founder).cards calls
   pub is_cards : k ≡ cards_after (fresh_by_cards slice book ids founder).slice (fresh_by_cards slice book ids founder).cards calls
@@ -156,7 +156,7 @@ pub record CardClaims (ids : List ℕ) (founder : ℕ) (bare : List ℕ) (alone 
   pub same : w ≡ record_after present bare alone
   -- (f) Demand 3's claims hold of them; and of its last one also this: a next deliver with cards is refused no more than one without.
   pub claims : Claims present ids founder (step_events events) w
-  pub next : (m : Message) → Mem m (read w).messages → (number : ℕ) → (step_cards w k 3 m.from m.to).outcome ≡ Refused number → ⊥
+  pub next : (m : Message) → Mem m (read w).messages → (number : ℕ) → (step_cards w k 3 m.from m.to).outcome ≡ Err number → ⊥
 
 -- Of every slice that was made with its ring.
 unfoldable pub Custody : Type 0

@@ -15,8 +15,10 @@ use Rattle.protocol.specs.declared.Answer.TheVariants.{Quiet, Found, Entered, Go
 use Rattle.protocol.specs.declared.Route.{Route}
 use Rattle.protocol.specs.declared.Route.TheVariants.{Own, To}
 use Rattle.protocol.specs.declared.Decision.{Decision}
-use Rattle.protocol.specs.declared.Decision.TheVariants.{Refuse, Reply, Send}
-use Rattle.protocol.specs.Names.{INSIDE, NOT_EXPECTED}
+use Rattle.protocol.specs.declared.Decision.TheVariants.{Reply, Send}
+use Rattle.std.specs.Prelude.{Err, Ok}
+use Rattle.protocol.specs.Names.{INSIDE}
+use Rattle.protocol.specs.declared.refusal.Refusal.TheVariants.{NotExpected}
 use Rattle.protocol.specs.Record.{State, count, row, outside, without_message, message}
 use Rattle.protocol.specs.Routing.{in_ring}
 use Rattle.protocol.specs.Kinds as kinds
@@ -42,12 +44,12 @@ Strikes (Left hub) = ⊥
 
 -- where a decision strikes off, the receiver is in state 2 afterwards
 abbrev Mild : Decision → Type 0
-Mild (Refuse k) = Unit {0}
-Mild (Reply v a) = Strikes a → v.state ≡ INSIDE
-Mild (Send v n a) = Strikes a → v.state ≡ INSIDE
+Mild (Err k) = Unit {0}
+Mild (Ok (Reply v a)) = Strikes a → v.state ≡ INSIDE
+Mild (Ok (Send v n a)) = Strikes a → v.state ≡ INSIDE
 
-if_else : (b : Bool) (x : Decision) → (T b → Mild x) → Mild (when b then x else Refuse NOT_EXPECTED)
-if_else b x f = choose Mild b x (Refuse NOT_EXPECTED) f (λ _. tt)
+if_else : (b : Bool) (x : Decision) → (T b → Mild x) → Mild (when b then x else Err NotExpected)
+if_else b x f = choose Mild b x (Err NotExpected) f (λ _. tt)
 
 module _ (h : Row) (m : Message) where
   lookup_routed_lem : (r : Route) → Mild (lookup_routed h m r)
@@ -87,9 +89,9 @@ Lasts (accepted a s) = Strikes a → (t : ℕ) × ((row s t).state ≡ INSIDE)
 module _ (s : State) where
   decided : (j t : ℕ) → t < count s → (d : Decision) → Mild d → Lasts (conclude (without_message s j) t d)
   unfolding conclude
-  decided j t l (Refuse k) x = tt
-  decided j t l (Reply v a) x = λ g. (t, ap (λ r. r.state) (get_or-set_same s.rows t v (outside 0) l) ∙ x g)
-  decided j t l (Send v n a) x = λ g. (t, ap (λ r. r.state) (get_or-set_same s.rows t v (outside 0) l) ∙ x g)
+  decided j t l (Err k) x = tt
+  decided j t l (Ok (Reply v a)) x = λ g. (t, ap (λ r. r.state) (get_or-set_same s.rows t v (outside 0) l) ∙ x g)
+  decided j t l (Ok (Send v n a)) x = λ g. (t, ap (λ r. r.state) (get_or-set_same s.rows t v (outside 0) l) ∙ x g)
 
   deliver_lasts : (x y : ℕ) → Lasts (step.deliver s x y)
   unfolding step.deliver delivered

@@ -7,8 +7,8 @@ use Rattle.lists.specs.Basics.{when◌then◌else◌, require, table, Mem}
 use Rattle.lists.specs.Choice.{on_no, tested}
 use Rattle.protocol.specs.declared.Message.{Message}
 use Rattle.protocol.specs.declared.Answer.TheVariants.{Quiet}
-use Rattle.protocol.specs.declared.Outcome.TheVariants.{Refused, Answered}
-use Rattle.protocol.specs.Names.{NOT_WELL_FORMED, RECORD_SHORT}
+use Rattle.std.specs.Prelude.{Err, Ok}
+use Rattle.protocol.specs.declared.refusal.Refusal.TheVariants.{NotWellFormed, RecordShort}
 use Rattle.protocol.specs.Record.{State, outside, words}
 use Rattle.protocol.specs.Fresh.{alone}
 use Rattle.protocol.specs.Kinds.{question}
@@ -48,7 +48,7 @@ with_a_stranger c = let e = ap hub_of (c.held 1 (omega arith)) in omega (arith, 
 
 -- (c) A card that nobody offered; one that was offered, accepted, and is lost; one that is kept with another price; and one that is kept twice.
 abbrev offered : CardEvent
-offered = record { call = offer (record { machine = 7; revision = 1; price = 50 }); outcome = Answered Quiet }
+offered = record { call = offer (record { machine = 7; revision = 1; price = 50 }); outcome = Ok Quiet }
 
 abbrev once : List ℕ → Type 0
 once k = CardClaims two 0 [] [] (offered ∷ []) [] k
@@ -88,7 +88,7 @@ number : List Event → ℕ
 number [] = 0
 number (e ∷ events) = refusal e.outcome
 
-pub refused_by_the_cards : CardClaims two 0 [] (leaving ∷ []) (record { call = step leaving; outcome = Refused NOT_WELL_FORMED } ∷ []) [] [] → ⊥
+pub refused_by_the_cards : CardClaims two 0 [] (leaving ∷ []) (record { call = step leaving; outcome = Err NotWellFormed } ∷ []) [] [] → ⊥
 unfolding step_events history number refusal step_call on_record long require when◌then◌else◌
 refused_by_the_cards c = let e = ap number c.outcomes in omega (arith, e)
 
@@ -101,12 +101,12 @@ abbrev no_place : Route
 no_place = record { hub = 0; numbers = 7 ∷ []; out = replicate 5 0 }
 
 abbrev routed : Route → List CardEvent → Type 0
-routed r events = CardClaims two 0 [] (steps (route r ∷ [])) (record { call = route r; outcome = Answered Quiet } ∷ events) [] []
+routed r events = CardClaims two 0 [] (steps (route r ∷ [])) (record { call = route r; outcome = Ok Quiet } ∷ events) [] []
 
 abbrev asked : ℕ → List CardEvent
-asked k = record { call = step (ask 0 7); outcome = Refused k } ∷ []
+asked k = record { call = step (ask 0 7); outcome = Err k } ∷ []
 
-pub route_differs_from_asking : routed one_place (asked NOT_WELL_FORMED) → ⊥
+pub route_differs_from_asking : routed one_place (asked NotWellFormed) → ⊥
 unfolding steps fitting step_events history number refusal step_call on_record long require when◌then◌else◌
 route_differs_from_asking c = let e = ap number c.outcomes in omega (arith, e)
 
@@ -114,7 +114,7 @@ pub question_not_asked : routed one_place [] → ⊥
 unfolding steps fitting step_events history require when◌then◌else◌
 question_not_asked c = let e = ap length c.outcomes in omega (arith, e)
 
-pub asked_without_a_place : routed no_place (asked RECORD_SHORT) → ⊥
+pub asked_without_a_place : routed no_place (asked RecordShort) → ⊥
 unfolding steps fitting step_events history require when◌then◌else◌
 asked_without_a_place c = let e = ap length c.outcomes in omega (arith, e)
 
@@ -133,5 +133,5 @@ ring = record { rows = alone 0 100 ∷ outside 200 ∷ []; messages = waits ∷ 
 pub delivery_refused : CardClaims two 0 [] [] [] (words ring ++ []) [] → ⊥
 unfolding step_cards on_both both_long
 delivery_refused c =
-    c.next waits (subst (λ z. Mem waits z.messages) (sym (read_words ring [] (omega arith))) (inl refl)) RECORD_SHORT
-    (tested (λ (z : CardsCalled). z.outcome ≡ Refused RECORD_SHORT) _ _ _ refl (λ _. ap (λ (z : CardsCalled). z.outcome) (on_no (nat_le book_size (length {A = ℕ} [])) _ _ refl)))
+    c.next waits (subst (λ z. Mem waits z.messages) (sym (read_words ring [] (omega arith))) (inl refl)) RecordShort
+    (tested (λ (z : CardsCalled). z.outcome ≡ Err RecordShort) _ _ _ refl (λ _. ap (λ (z : CardsCalled). z.outcome) (on_no (nat_le book_size (length {A = ℕ} [])) _ _ refl)))

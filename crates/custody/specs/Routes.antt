@@ -6,7 +6,7 @@ use Rattle.std.proofs.Math.Bool.{true, false}
 use mathlib.Core.List.{List, [], ◌∷◌, ◌++◌, map}
 use Rattle.lists.specs.Basics.{when◌then◌else◌, require, All}
 use Rattle.lists.specs.Choice.{tested, granted}
-use Rattle.protocol.specs.declared.Outcome.{Outcome}
+use Rattle.protocol.specs.Outcomes.{Outcome}
 use Rattle.protocol.specs.WellFormed.{well_formed}
 use Rattle.protocol.specs.Calls.{long, on_record, step_call}
 use Rattle.protocol.specs.Membership.{after_outcome}

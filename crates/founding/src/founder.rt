@@ -3,7 +3,7 @@ ghost use Rattle.std.specs.Prelude.{◌≡◌};
 ghost use Rattle.protocol.specs.Fresh.{alone, founder_of, smallest as smallest_spec};
 
 use protocol::form::NONE;
-use protocol::{Founder, Row, states};
+use protocol::{Row, states};
 
 // The node with the smallest identifier; 0 where there is none.
 fn smallest(identifiers: &[u32]) -> usize
@@ -21,12 +21,12 @@ fn smallest(identifiers: &[u32]) -> usize
 }
 
 // The node that the caller means; one that is named need not be there.
-pub fn founding_node(founder: Founder, identifiers: &[u32]) -> usize
+pub fn founding_node(founder: Option<u32>, identifiers: &[u32]) -> usize
     ensures { result ≡ founder_of founder identifiers.now }
 {
     match founder {
-        Founder::Smallest => smallest(identifiers),
-        Founder::Named(node) => node as usize,
+        None => smallest(identifiers),
+        Some(node) => node as usize,
     }
 }
 

@@ -12,41 +12,41 @@ use crate::writing::write_fresh;
 pub use founder::founding_node;
 use lists::both;
 use protocol::form::RECORD_WORDS;
-use protocol::{Answer, Founder, Outcome, refusals};
+use protocol::{Answer, Refusal};
 use wellformed::repeated;
 pub use writing::clear;
 
 // A ring founded by the node with the smallest identifier, wherever it stands in the list.
-pub fn fresh(w: &mut [u32], identifiers: &[u32]) -> Outcome
+pub fn fresh(w: &mut [u32], identifiers: &[u32]) -> Result<Answer, Refusal>
     ensures { fresh_call w.old identifiers.now ≡ record { outcome = result; slice = w.new } }
 {
-    found(w, identifiers, Founder::Smallest)
+    found(w, identifiers, None)
 }
 
 // A ring founded by the node that the caller names.
-pub fn fresh_by(w: &mut [u32], identifiers: &[u32], founder: u32) -> Outcome
+pub fn fresh_by(w: &mut [u32], identifiers: &[u32], founder: u32) -> Result<Answer, Refusal>
     ensures { fresh_by_call w.old identifiers.now founder ≡ record { outcome = result; slice = w.new } }
 {
-    found(w, identifiers, Founder::Named(founder))
+    found(w, identifiers, Some(founder))
 }
 
 // Both in one. The first question that is answered no decides. All of them are asked before any word is written, so a refusal changes none.
-pub fn found(w: &mut [u32], identifiers: &[u32], founder: Founder) -> Outcome
+pub fn found(w: &mut [u32], identifiers: &[u32], founder: Option<u32>) -> Result<Answer, Refusal>
     ensures { fresh_by_call w.old identifiers.now (founder_of founder identifiers.now) ≡ record { outcome = result; slice = w.new } }
 {
     if w.len() < RECORD_WORDS {
-        return Outcome::Refused(refusals::RECORD_SHORT);
+        return Err(Refusal::RecordShort);
     }
     if !both(1 <= identifiers.len(), identifiers.len() <= 64) {
-        return Outcome::Refused(refusals::IDENTIFIER_COUNT);
+        return Err(Refusal::IdentifierCount);
     }
     if repeated(identifiers, identifiers.len()) != 0 {
-        return Outcome::Refused(refusals::IDENTIFIER_TWICE);
+        return Err(Refusal::IdentifierTwice);
     }
     let node = founding_node(founder, identifiers);
     if identifiers.len() <= node {
-        return Outcome::Refused(refusals::NO_FOUNDER);
+        return Err(Refusal::NoFounder);
     }
     write_fresh(w, identifiers, node);
-    Outcome::Answered(Answer::Quiet)
+    Ok(Answer::Quiet)
 }

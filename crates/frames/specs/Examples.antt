@@ -2,9 +2,10 @@
 -- Assumes nothing.
 use Rattle.std.specs.Prelude.{◌≡◌, refl, List, [], ◌∷◌, ◌++◌, ℕ, replicate}
 use Rattle.lists.specs.Basics.{when◌then◌else◌, require, every}
-use Rattle.protocol.specs.declared.Outcome.TheVariants.{Refused}
+use Rattle.std.specs.Prelude.{Err}
 use Rattle.protocol.specs.declared.Frame.TheVariants.{Founding, Command, Unreadable}
-use Rattle.protocol.specs.Names.{IDENTIFIER_COUNT, UNREADABLE}
+use Rattle.protocol.specs.Names.{UNREADABLE}
+use Rattle.protocol.specs.declared.refusal.Refusal.TheVariants.{IdentifierCount}
 use Rattle.protocol.specs.Frames.{is_digit, digit_value, read2, read4, read8, founding, command, frame, digit_of, print2, refusal_text, outcome_text}
 
 -- 00, 00000000, 00000096
@@ -23,7 +24,7 @@ edges = (refl, refl, refl, refl, refl)
 
 -- EE0D and EEFF
 pub refusals :
-    (outcome_text (Refused IDENTIFIER_COUNT) ≡ 69 ∷ 69 ∷ 48 ∷ 68 ∷ [])
+    (outcome_text (Err IdentifierCount) ≡ 69 ∷ 69 ∷ 48 ∷ 68 ∷ [])
     × (refusal_text UNREADABLE ≡ 69 ∷ 69 ∷ 70 ∷ 70 ∷ [])
 unfolding digit_of print2 refusal_text outcome_text when◌then◌else◌
 refusals = (refl, refl)

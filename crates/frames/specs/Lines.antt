@@ -7,7 +7,7 @@ use Rattle.lists.specs.Basics.{require, when◌then◌else◌}
 use Rattle.protocol.specs.declared.Frame.{Frame}
 use Rattle.protocol.specs.declared.Frame.TheVariants.{Founding, Command, Unreadable}
 use Rattle.protocol.specs.declared.Line.{Line}
-use Rattle.protocol.specs.declared.Outcome.{Outcome}
+use Rattle.protocol.specs.Outcomes.{Outcome}
 use Rattle.protocol.specs.Names.{UNREADABLE}
 use Rattle.protocol.specs.Calls.{Called, fresh_by_call, step_call}
 use Rattle.protocol.specs.Frames.{frame, identifiers, refusal_text, outcome_text, line, answering, frame_call, line_call}

@@ -7,7 +7,7 @@ use crate::digits::read8;
 use crate::printing::{outcome_line, refusal_line};
 use crate::reading::decode;
 use founding::fresh_by;
-use protocol::{Frame, Line, Outcome, refusals};
+use protocol::{Answer, Frame, Line, Refusal, refusals};
 use steps::step;
 
 // The identifiers that follow F0, in the first places of an array that has room for the most that a frame can hold.
@@ -26,7 +26,7 @@ fn identifiers(line: &[u8], count: usize) -> [u32; 64]
 
 // The fresh call of a line that decodes as a founding with so many identifiers. A line has no place for a founder, and those who write it
 // count on the first node: it names node 0.
-pub fn fresh_ring(w: &mut [u32], line: &[u8], count: usize) -> Outcome
+pub fn fresh_ring(w: &mut [u32], line: &[u8], count: usize) -> Result<Answer, Refusal>
     requires { (count ≤ 64) × (2 + 8 * count ≤ length line.now) }
     ensures { fresh_by_call w.old (identifiers_spec line.now count) 0 ≡ record { outcome = result; slice = w.new } }
 {

@@ -4,7 +4,7 @@ ghost use Rattle.std.proofs.lemmas.List.Edits.{sets};
 ghost use Rattle.protocol.specs.Frames.{digit_of, print2, print4, print8, refusal_text, fields_text, outcome_text, line};
 
 use answers::answer_words;
-use protocol::{Line, Outcome};
+use protocol::{Answer, Line, Refusal};
 
 // The last digit of a number, upper case.
 fn digit_of(v: u32) -> u8
@@ -64,11 +64,11 @@ fn fields_line(fields: [u32; 5]) -> Line
     Line { bytes, count: 25 }
 }
 
-pub fn outcome_line(o: Outcome) -> Line
+pub fn outcome_line(o: Result<Answer, Refusal>) -> Line
     ensures { (result ≡ line (outcome_text o)) × (result.count ≤ 25) × (length result.bytes ≡ 25) }
 {
     match o {
-        Outcome::Refused(number) => refusal_line(number),
-        Outcome::Answered(a) => fields_line(answer_words(a)),
+        Err(number) => refusal_line(number),
+        Ok(a) => fields_line(answer_words(a)),
     }
 }

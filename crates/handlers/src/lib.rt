@@ -4,10 +4,10 @@
 ghost use Rattle.std.specs.Prelude.{◌≡◌};
 ghost use Rattle.protocol.specs.Kinds.{handle as handle_spec};
 
-use protocol::{Decision, Message, Row, kinds, refusals};
+use protocol::{Decision, Message, Refusal, Row, kinds};
 
 // What t does with m. Only a JOIN reads g.
-pub fn handle(p: u32, h: Row, g: Row, m: Message) -> Decision
+pub fn handle(p: u32, h: Row, g: Row, m: Message) -> Result<Decision, Refusal>
     ensures { result ≡ handle_spec p h g m }
 {
     let k = m.kind;
@@ -26,6 +26,6 @@ pub fn handle(p: u32, h: Row, g: Row, m: Message) -> Decision
         kinds::UPDATESUCC => leaves::update_succ(h, m),
         kinds::STOPFORWARD => leaves::stop_forward(h, m),
         kinds::LEAVEDONE => leaves::leave_done(h, m),
-        _ => Decision::Refuse(refusals::NOT_EXPECTED),
+        _ => Err(Refusal::NotExpected),
     }
 }

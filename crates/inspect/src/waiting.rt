@@ -3,7 +3,7 @@ ghost use Rattle.std.specs.Prelude.{◌≤◌};
 
 use crate::bounds::least;
 use protocol::form::{MESSAGE_WORDS, MESSAGES_AT, RECORD_WORDS};
-use protocol::{kinds, refusals};
+use protocol::{Refusal, kinds};
 use record::message_at;
 use wellformed::well_formed;
 use wording::{field, message, refused, say};
@@ -47,10 +47,10 @@ fn messages(out: &mut [u8], at: usize, part: &[u32]) -> usize {
 pub fn waiting(out: &mut [u8], w: &[u32]) -> usize {
     let begun = say(out, 0, b"waiting: ");
     if w.len() < RECORD_WORDS {
-        return refused(out, begun, refusals::RECORD_SHORT);
+        return refused(out, begun, Refusal::RecordShort);
     }
     if !well_formed(w) {
-        return refused(out, begun, refusals::NOT_WELL_FORMED);
+        return refused(out, begun, Refusal::NotWellFormed);
     }
     let part = message_words(w, w[2]);
     let counted = field(

@@ -5,19 +5,19 @@ ghost use Rattle.std.specs.Prelude.{◌≡◌};
 ghost use Rattle.protocol.specs.Kinds.{join_retried, join_routed, join as join_spec, join_retry, join_point, new_succ, new_succ_ack, join_done};
 
 use protocol::form::NONE;
-use protocol::{Answer, Decision, Message, Route, Row, kinds, refusals, states};
+use protocol::{Answer, Decision, Message, Refusal, Route, Row, kinds, states};
 use routing::{note, route};
 
 // 'JOINRETRY to a': the newcomer is turned away, and may ask again.
-fn join_retried(h: Row, m: Message) -> Decision
+fn join_retried(h: Row, m: Message) -> Result<Decision, Refusal>
     ensures { result ≡ join_retried h m }
 {
-    Decision::Send(h, note(kinds::JOINRETRY, m.to, m.a, 0), Answer::Quiet)
+    Ok(Decision::Send(h, note(kinds::JOINRETRY, m.to, m.a, 0), Answer::Quiet))
 }
 
 // 'an owner with lock 1 sends JOINRETRY to a; with lock 0 it locks, sets the flag, oldpred = pred,
 // pred = a, sends JOINPOINT (a = oldpred) to hub a and answers entered.'
-fn join_routed(h: Row, m: Message, way: Route) -> Decision
+fn join_routed(h: Row, m: Message, way: Route) -> Result<Decision, Refusal>
     ensures { result ≡ join_routed h m way }
 {
     match way {
@@ -30,19 +30,19 @@ fn join_routed(h: Row, m: Message, way: Route) -> Decision
             admitting.flag = 1;
             admitting.oldpred = h.pred;
             admitting.pred = m.a;
-            Decision::Send(
+            Ok(Decision::Send(
                 admitting,
                 note(kinds::JOINPOINT, m.to, m.a, h.pred),
                 Answer::Entered(m.a),
-            )
+            ))
         }
-        Route::To(z) => Decision::Send(h, note(kinds::JOIN, m.to, z, m.a), Answer::Quiet),
+        Route::To(z) => Ok(Decision::Send(h, note(kinds::JOIN, m.to, z, m.a), Answer::Quiet)),
     }
 }
 
 // 2 JOIN: 'hub a in state 1. At t in state 0 or 1: JOINRETRY to a. Otherwise routed by a's
 // identifier'.
-pub fn join(p: u32, h: Row, g: Row, m: Message) -> Decision
+pub fn join(p: u32, h: Row, g: Row, m: Message) -> Result<Decision, Refusal>
     ensures { result ≡ join_spec p h g m }
 {
     let newcomer = g.state;
@@ -54,12 +54,12 @@ pub fn join(p: u32, h: Row, g: Row, m: Message) -> Decision
                 _ => join_routed(h, m, route(p, h, m.from, g.identifier)),
             }
         }
-        _ => Decision::Refuse(refusals::NOT_EXPECTED),
+        _ => Err(Refusal::NotExpected),
     }
 }
 
 // 3 JOINRETRY: 'state 1. State 0, lock 0. Join turned away.'
-pub fn join_retry(h: Row, m: Message) -> Decision
+pub fn join_retry(h: Row, m: Message) -> Result<Decision, Refusal>
     ensures { result ≡ join_retry h m }
 {
     let s = h.state;
@@ -68,14 +68,14 @@ pub fn join_retry(h: Row, m: Message) -> Decision
             let mut outside = h;
             outside.state = states::OUTSIDE;
             outside.lock = 0;
-            Decision::Reply(outside, Answer::JoinTurnedAway(m.to))
+            Ok(Decision::Reply(outside, Answer::JoinTurnedAway(m.to)))
         }
-        _ => Decision::Refuse(refusals::NOT_EXPECTED),
+        _ => Err(Refusal::NotExpected),
     }
 }
 
 // 4 JOINPOINT: 'state 1. State 2, pred = a, succ = f; NEWSUCC to a.' It stays locked till JOINDONE.
-pub fn join_point(h: Row, m: Message) -> Decision
+pub fn join_point(h: Row, m: Message) -> Result<Decision, Refusal>
     ensures { result ≡ join_point h m }
 {
     let s = h.state;
@@ -85,14 +85,14 @@ pub fn join_point(h: Row, m: Message) -> Decision
             inside.state = states::INSIDE;
             inside.pred = m.a;
             inside.succ = m.from;
-            Decision::Send(inside, note(kinds::NEWSUCC, m.to, m.a, 0), Answer::Quiet)
+            Ok(Decision::Send(inside, note(kinds::NEWSUCC, m.to, m.a, 0), Answer::Quiet))
         }
-        _ => Decision::Refuse(refusals::NOT_EXPECTED),
+        _ => Err(Refusal::NotExpected),
     }
 }
 
 // 5 NEWSUCC: 'state 2 or 3. NEWSUCCACK (a = f) to succ; then succ = f.' It goes to the old succ.
-pub fn new_succ(h: Row, m: Message) -> Decision
+pub fn new_succ(h: Row, m: Message) -> Result<Decision, Refusal>
     ensures { result ≡ new_succ h m }
 {
     let s = h.state;
@@ -100,48 +100,48 @@ pub fn new_succ(h: Row, m: Message) -> Decision
         states::INSIDE | states::WANTING_TO_LEAVE => {
             let mut relinked = h;
             relinked.succ = m.from;
-            Decision::Send(
+            Ok(Decision::Send(
                 relinked,
                 note(kinds::NEWSUCCACK, m.to, h.succ, m.from),
                 Answer::Quiet,
-            )
+            ))
         }
-        _ => Decision::Refuse(refusals::NOT_EXPECTED),
+        _ => Err(Refusal::NotExpected),
     }
 }
 
 // 6 NEWSUCCACK: 'flag 1. Flag 0, oldpred none, lock 0; JOINDONE to a.' This is the last that
 // oldpred sends to t as its succ, so from now on nothing is to be sent on to pred.
-pub fn new_succ_ack(h: Row, m: Message) -> Decision
+pub fn new_succ_ack(h: Row, m: Message) -> Result<Decision, Refusal>
     ensures { result ≡ new_succ_ack h m }
 {
     if h.flag != 1 {
-        return Decision::Refuse(refusals::NOT_EXPECTED);
+        return Err(Refusal::NotExpected);
     }
     let mut admitted = h;
     admitted.flag = 0;
     admitted.oldpred = NONE;
     admitted.lock = 0;
-    Decision::Send(admitted, note(kinds::JOINDONE, m.to, m.a, 0), Answer::Quiet)
+    Ok(Decision::Send(admitted, note(kinds::JOINDONE, m.to, m.a, 0), Answer::Quiet))
 }
 
 // 7 JOINDONE: 'state 2, lock 1, flag 0. Lock 0. Joined.'
-pub fn join_done(h: Row, m: Message) -> Decision
+pub fn join_done(h: Row, m: Message) -> Result<Decision, Refusal>
     ensures { result ≡ join_done h m }
 {
     let s = h.state;
     match s {
         states::INSIDE => {
             if h.lock != 1 {
-                return Decision::Refuse(refusals::NOT_EXPECTED);
+                return Err(Refusal::NotExpected);
             }
             if h.flag != 0 {
-                return Decision::Refuse(refusals::NOT_EXPECTED);
+                return Err(Refusal::NotExpected);
             }
             let mut joined = h;
             joined.lock = 0;
-            Decision::Reply(joined, Answer::Joined(m.to))
+            Ok(Decision::Reply(joined, Answer::Joined(m.to)))
         }
-        _ => Decision::Refuse(refusals::NOT_EXPECTED),
+        _ => Err(Refusal::NotExpected),
     }
 }

@@ -11,11 +11,13 @@ use Rattle.protocol.specs.declared.Row.{Row}
 use Rattle.protocol.specs.declared.Message.{Message}
 use Rattle.protocol.specs.declared.Answer.{Answer}
 use Rattle.protocol.specs.declared.Answer.TheVariants.{Quiet, Found}
-use Rattle.protocol.specs.declared.Outcome.{Outcome}
-use Rattle.protocol.specs.declared.Outcome.TheVariants.{Refused, Answered}
+use Rattle.protocol.specs.Outcomes.{Outcome}
+use Rattle.std.specs.Prelude.{Err, Ok}
 use Rattle.protocol.specs.declared.Route.{Route}
 use Rattle.protocol.specs.declared.Route.TheVariants.{Own, To}
-use Rattle.protocol.specs.Names.{INSIDE, LEAVING, MESSAGES_FULL, NOT_IN_RING, NOT_WELL_FORMED, NO_HUB, RECORD_SHORT, TICKETS_USED_UP}
+use Rattle.protocol.specs.Names.{INSIDE, LEAVING}
+use Rattle.protocol.specs.declared.refusal.Refusal.{Refusal}
+use Rattle.protocol.specs.declared.refusal.Refusal.TheVariants.{MessagesFull, NotInRing, NotWellFormed, NoHub, RecordShort, TicketsUsedUp}
 use Rattle.protocol.specs.Record.{most_messages, record_size, State, count, row, identifier, read, words, sent, ticketed}
 use Rattle.protocol.specs.WellFormed.{names_node}
 use Rattle.protocol.specs.Routing.{in_ring, onward}
@@ -46,7 +48,7 @@ pub Leaves : Result → Type 0
 Leaves (refused k) = Unit {0}
 Leaves (accepted a s) = Form s
 
-pub leaves_refused : (k : ℕ) → Leaves (refused k)
+pub leaves_refused : (k : Refusal) → Leaves (refused k)
 unfolding Leaves
 leaves_refused k = tt
 
@@ -75,7 +77,7 @@ sent_form s m f l o = record {
     go x (inr (inr k)) = absurd k
 
 -- what holds of a question's result
-pub ask_yes : (b : Bool) (k : ℕ) (r : Result) → (T b → Leaves r) → Leaves (require b (refused k) r)
+pub ask_yes : (b : Bool) (k : Refusal) (r : Result) → (T b → Leaves r) → Leaves (require b (refused k) r)
 ask_yes b k r g = tested Leaves b (refused k) r (leaves_refused k) g
 
 pub roomy : (s : State) → T (room s) → length s.messages < most_messages
@@ -143,13 +145,13 @@ ask_again w ok hub v =
           length = length-append (words s) t ∙ omega (arith, length_words s t f.few f.short, length-drop record_size w, ok.long);
         }
 
--- What holds of a question's outcome, whatever the record is: it is refused by a number above 0, or found at its hub, or quiet.
-pub ask_cases : (P : Outcome → Type 0) (w : List ℕ) (hub v : ℕ) → ((k : ℕ) → 0 < k → P (Refused k)) → ((ticket : ℕ) → P (Answered (Found hub v ticket 0))) → P (Answered Quiet)
+-- What holds of a question's outcome, whatever the record is: it is refused, or found at its hub, or quiet.
+pub ask_cases : (P : Outcome → Type 0) (w : List ℕ) (hub v : ℕ) → ((k : Refusal) → P (Err k)) → ((ticket : ℕ) → P (Ok (Found hub v ticket 0))) → P (Ok Quiet)
     → P (step_call w 0 hub v).outcome
 unfolding step_call on_record written step.step step.ask asking when◌then◌else◌
 ask_cases P w hub v refuses found quiet =
-    tested CalledP _ _ _ (refuses RECORD_SHORT (omega arith)) (λ _. tested CalledP _ _ _ (refuses NOT_WELL_FORMED (omega arith))
-    (λ _. tested ResultP _ _ _ (refuses NO_HUB (omega arith)) (λ _. tested ResultP _ _ _ (refuses NOT_IN_RING (omega arith)) (λ _. tested ResultP _ _ _ (refuses TICKETS_USED_UP (omega arith))
+    tested CalledP _ _ _ (refuses RecordShort) (λ _. tested CalledP _ _ _ (refuses NotWellFormed)
+    (λ _. tested ResultP _ _ _ (refuses NoHub) (λ _. tested ResultP _ _ _ (refuses NotInRing) (λ _. tested ResultP _ _ _ (refuses TicketsUsedUp)
     (λ _. routed (onward (identifier (read w) (row (read w) hub).pred) (row (read w) hub) v))))))
   where
     CalledP : Called → Type 0
@@ -160,4 +162,4 @@ ask_cases P w hub v refuses found quiet =
 
     routed : (z : Route) → ResultP (asking (read w) hub v z)
     routed Own = found (read w).asked
-    routed (To z) = tested ResultP _ _ _ (refuses MESSAGES_FULL (omega arith)) (λ _. quiet)
+    routed (To z) = tested ResultP _ _ _ (refuses MessagesFull) (λ _. quiet)

@@ -1,14 +1,11 @@
 -- Document 01, 'Answers', and the numbers that calls return: its number and values for each case of an enum. And the tally.
-use Rattle.std.specs.Prelude.{List, [], ◌∷◌, ℕ, ◌+◌, nat_lt, nat_eq, get_or}
+use Rattle.std.specs.Prelude.{List, [], ◌∷◌, Result, Ok, Err, ℕ, ◌+◌, nat_lt, nat_eq, get_or}
 use Rattle.lists.specs.Basics.{when◌then◌else◌}
 use Rattle.protocol.specs.declared.Answer.{Answer}
 use Rattle.protocol.specs.declared.Answer.TheVariants.{Quiet, Found, Entered, Gone, JoinTurnedAway, LeaveTurnedAway, Joined, Left}
-use Rattle.protocol.specs.declared.Outcome.{Outcome}
-use Rattle.protocol.specs.declared.Outcome.TheVariants.{Refused, Answered}
-use Rattle.protocol.specs.declared.Ownership.{Ownership}
-use Rattle.protocol.specs.declared.Ownership.TheVariants.{Refused as OwnerRefused, HeldBy}
-use Rattle.protocol.specs.declared.Roll.{Roll}
-use Rattle.protocol.specs.declared.Roll.TheVariants.{Refused as RollRefused, Length}
+use Rattle.protocol.specs.declared.refusal.Refusal.{Refusal}
+use Rattle.protocol.specs.Refusals.{number_of}
+use Rattle.protocol.specs.Outcomes.{Outcome}
 use Rattle.protocol.specs.declared.Tally.{Tally}
 use Rattle.protocol.specs.Names.{ENTERED, FOUND, GONE, JOINED, JOIN_TURNED_AWAY, LEAVE_TURNED_AWAY, LEFT, QUIET, REFUSAL}
 
@@ -26,30 +23,19 @@ answer_words (Left hub) = LEFT ∷ hub ∷ 0 ∷ 0 ∷ 0 ∷ []
 unfoldable pub kind_of : Answer → ℕ
 kind_of a = get_or (answer_words a) 0 0
 
--- 'the number returned is the refusal, 0 for none', and the words that go with it: a step's, the owner query's, a roll call's length
-unfoldable pub refusal : Outcome → ℕ
-refusal (Refused k) = k
-refusal (Answered a) = 0
+-- 'the number returned is the refusal, 0 for none', and the words that go with it
+unfoldable pub refusal : {A : Type 0} → Result A Refusal → ℕ
+refusal (Err k) = number_of k
+refusal (Ok a) = 0
 
 unfoldable pub outcome_words : Outcome → List ℕ
-outcome_words (Refused k) = []
-outcome_words (Answered a) = answer_words a
+outcome_words (Err k) = []
+outcome_words (Ok a) = answer_words a
 
-unfoldable pub owner_refusal : Ownership → ℕ
-owner_refusal (OwnerRefused k) = k
-owner_refusal (HeldBy hub) = 0
-
-unfoldable pub owner_words : Ownership → List ℕ
-owner_words (OwnerRefused k) = []
-owner_words (HeldBy hub) = hub ∷ []
-
-unfoldable pub roll_refusal : Roll → ℕ
-roll_refusal (RollRefused k) = k
-roll_refusal (Length n) = 0
-
-unfoldable pub roll_words : Roll → List ℕ
-roll_words (RollRefused k) = []
-roll_words (Length n) = n ∷ []
+-- The hub of an owner query, the length of a roll.
+unfoldable pub number_words : Result ℕ Refusal → List ℕ
+number_words (Err k) = []
+number_words (Ok n) = n ∷ []
 
 -- The tally: 'nine counts (kinds 0 to 7, refused)', one raised by each step; 'a count at 18446744073709551615 stays'.
 unfoldable pub raised : ℕ → ℕ
@@ -57,8 +43,8 @@ raised n = when nat_lt n 18446744073709551615 then n + 1 else n
 
 -- Which count: that of the answer's kind, and 8 for a refusal.
 unfoldable pub count_of : Outcome → ℕ
-count_of (Refused k) = REFUSAL
-count_of (Answered a) = kind_of a
+count_of (Err k) = REFUSAL
+count_of (Ok a) = kind_of a
 
 unfoldable pub raised_at : ℕ → Tally → Tally
 raised_at k t = record {

@@ -3,10 +3,12 @@
 use Rattle.std.specs.Prelude.{List, [], ◌∷◌, ◌++◌, ℕ, ◌*◌, ◌/◌, nat_le, length, drop}
 use Rattle.lists.specs.Basics.{require, flat}
 use Rattle.protocol.specs.declared.Answer.TheVariants.{Quiet}
-use Rattle.protocol.specs.declared.Outcome.{Outcome}
-use Rattle.protocol.specs.declared.Outcome.TheVariants.{Refused, Answered}
+use Rattle.protocol.specs.Outcomes.{Outcome}
+use Rattle.std.specs.Prelude.{Err, Ok}
 use Rattle.protocol.specs.declared.Tally.{Tally}
-use Rattle.protocol.specs.Names.{PLACES_SHORT, ROUTE_LONG}
+use Rattle.protocol.specs.declared.refusal.Refusal.{Refusal}
+use Rattle.protocol.specs.declared.refusal.Refusal.TheVariants.{PlacesShort, RouteLong}
+use Rattle.protocol.specs.Refusals.{number_of}
 use Rattle.protocol.specs.Answers.{answer_words, refusal, counted}
 use Rattle.protocol.specs.Calls.{on_record, step_call}
 use Rattle.protocol.specs.Bytes.{words_of, bytes_after, CalledBytes}
@@ -29,20 +31,20 @@ abbrev pub place_size : ℕ
 place_size = 6
 
 unfoldable pub place_words : Outcome → List ℕ
-place_words (Refused k) = k ∷ 0 ∷ 0 ∷ 0 ∷ 0 ∷ 0 ∷ []
-place_words (Answered a) = 0 ∷ answer_words a
+place_words (Err k) = number_of k ∷ 0 ∷ 0 ∷ 0 ∷ 0 ∷ 0 ∷ []
+place_words (Ok a) = 0 ∷ answer_words a
 
 abbrev pub most_questions : ℕ
 most_questions = 64
 
 -- Are there at most 64 numbers? 25. Is there a place for each? 26; words that are no whole place do not count.
-unfoldable pub fitting : {A : Type 0} → List ℕ → List ℕ → (ℕ → A) → A → A
+unfoldable pub fitting : {A : Type 0} → List ℕ → List ℕ → (Refusal → A) → A → A
 fitting numbers out no_result rest =
-    require (nat_le (length numbers) most_questions) (no_result ROUTE_LONG)
-    (require (nat_le (length numbers) (length out / place_size)) (no_result PLACES_SHORT) rest)
+    require (nat_le (length numbers) most_questions) (no_result RouteLong)
+    (require (nat_le (length numbers) (length out / place_size)) (no_result PlacesShort) rest)
 
 -- The questions of the call itself: 1, 2, 25, 26. (That the hub is none, or outside, each question is told for itself.)
-unfoldable pub on_batch : {A : Type 0} → List ℕ → List ℕ → List ℕ → (ℕ → A) → A → A
+unfoldable pub on_batch : {A : Type 0} → List ℕ → List ℕ → List ℕ → (Refusal → A) → A → A
 on_batch w numbers out no_result rest = on_record w no_result (fitting numbers out no_result rest)
 
 -- What the call leaves: its own outcome, quiet where it is accepted; the lent slice; and the lent output.
@@ -51,13 +53,13 @@ pub record BatchCalled : Type 0 where
   pub slice : List ℕ
   pub output : List ℕ
 
-abbrev pub unasked : List ℕ → List ℕ → ℕ → BatchCalled
-unasked w out k = record { outcome = Refused k; slice = w; output = out }
+abbrev pub unasked : List ℕ → List ℕ → Refusal → BatchCalled
+unasked w out k = record { outcome = Err k; slice = w; output = out }
 
 -- The first places are written, one for each number; what is behind them stays.
 unfoldable pub batch_written : List ℕ → List ℕ → Asked → BatchCalled
 batch_written numbers out asked = record {
-  outcome = Answered Quiet;
+  outcome = Ok Quiet;
   slice = asked.slice;
   output = flat place_words asked.outcomes ++ drop (place_size * length numbers) out;
 }

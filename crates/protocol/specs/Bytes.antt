@@ -1,12 +1,12 @@
 -- Document 01, 'Reading the ring': the calls as a C program makes them, where 'the words travel as bytes'. Bytes are numbers below 256.
 use Rattle.std.specs.Prelude.{List, [], ◌∷◌, ◌++◌, ℕ, ◌+◌, ◌*◌, ◌/◌, ◌%◌, ◌<◌, nat_le, length, drop}
 use Rattle.lists.specs.Basics.{require, flat}
-use Rattle.protocol.specs.declared.Outcome.{Outcome}
-use Rattle.protocol.specs.declared.Outcome.TheVariants.{Refused, Answered}
-use Rattle.protocol.specs.declared.Ownership.{Ownership}
-use Rattle.protocol.specs.Names.{OUTPUT_SHORT}
+use Rattle.protocol.specs.Outcomes.{Outcome, Ownership}
+use Rattle.std.specs.Prelude.{Err, Ok}
+use Rattle.protocol.specs.declared.refusal.Refusal.TheVariants.{OutputShort}
 use Rattle.protocol.specs.Fresh.{smallest}
-use Rattle.protocol.specs.Answers.{refusal, outcome_words, owner_refusal, owner_words}
+use Rattle.protocol.specs.Refusals.{number_of}
+use Rattle.protocol.specs.Answers.{refusal, outcome_words, number_words}
 use Rattle.protocol.specs.Calls.{Called, step_call, fresh_by_call, owner_call}
 
 abbrev pub Byte : ℕ → Type 0
@@ -36,8 +36,8 @@ over bytes w = bytes_of w ++ drop (4 * length w) bytes
 
 -- The bytes lent for the words, after a call that leaves these words: 'The number is returned, and no word of record .. changes.'
 unfoldable pub bytes_after : List ℕ → List ℕ → Outcome → List ℕ
-bytes_after bytes slice (Refused k) = bytes
-bytes_after bytes slice (Answered a) = over bytes slice
+bytes_after bytes slice (Err k) = bytes
+bytes_after bytes slice (Ok a) = over bytes slice
 
 -- What a step leaves: the number returned, the bytes lent for the words, and the lent output.
 pub record CalledBytes : Type 0 where
@@ -56,7 +56,7 @@ carried bytes out called = record {
 -- The step. 'a lent output, which if too short is 17, asked first': five words are 20 bytes.
 unfoldable pub step_bytes : List ℕ → ℕ → ℕ → ℕ → List ℕ → CalledBytes
 step_bytes bytes operation x y out =
-    require (nat_le 20 (length out)) (record { code = OUTPUT_SHORT; bytes = bytes; output = out })
+    require (nat_le 20 (length out)) (record { code = number_of OutputShort; bytes = bytes; output = out })
     (carried bytes out (step_call (words_of bytes) operation x y))
 
 -- What the owner query leaves: the number returned, and the lent output ('for owner one, the hub').
@@ -65,11 +65,11 @@ pub record OwnerBytes : Type 0 where
   pub output : List ℕ
 
 unfoldable pub told : List ℕ → Ownership → OwnerBytes
-told out owner = record { code = owner_refusal owner; output = over out (owner_words owner) }
+told out owner = record { code = refusal owner; output = over out (number_words owner) }
 
 unfoldable pub owner_bytes : List ℕ → ℕ → List ℕ → OwnerBytes
 owner_bytes bytes number out =
-    require (nat_le 4 (length out)) (record { code = OUTPUT_SHORT; output = out }) (told out (owner_call (words_of bytes) number))
+    require (nat_le 4 (length out)) (record { code = number_of OutputShort; output = out }) (told out (owner_call (words_of bytes) number))
 
 -- What a fresh call leaves: the number returned, and the bytes lent for the words. It has no output, since its answer is quiet.
 pub record FreshBytes : Type 0 where

@@ -3,41 +3,38 @@
 use Rattle.std.specs.Prelude.{Bool, ◌&&◌, List, [], ◌∷◌, ◌++◌, ℕ, zero, suc, nat_le, nat_lt, nat_eq, length, take, drop}
 use Rattle.lists.specs.Basics.{when◌then◌else◌, require, first, distinct}
 use Rattle.protocol.specs.declared.Answer.TheVariants.{Quiet}
-use Rattle.protocol.specs.declared.Outcome.{Outcome}
-use Rattle.protocol.specs.declared.Outcome.TheVariants.{Refused, Answered}
-use Rattle.protocol.specs.declared.Ownership.{Ownership}
-use Rattle.protocol.specs.declared.Ownership.TheVariants.{Refused as OwnerRefused, HeldBy}
-use Rattle.protocol.specs.declared.Roll.{Roll}
-use Rattle.protocol.specs.declared.Roll.TheVariants.{Refused as RollRefused, Length}
-use Rattle.protocol.specs.Names.{IDENTIFIER_COUNT, IDENTIFIER_TWICE, NOT_IN_RING, NOT_WELL_FORMED, NO_FOUNDER, NO_HOLDER, NO_HUB, NO_WAY_ROUND, OUTPUT_SHORT, RECORD_SHORT}
+use Rattle.protocol.specs.Outcomes.{Outcome, Ownership, Roll}
+use Rattle.std.specs.Prelude.{Err, Ok}
+use Rattle.protocol.specs.declared.refusal.Refusal.{Refusal}
+use Rattle.protocol.specs.declared.refusal.Refusal.TheVariants.{IdentifierCount, IdentifierTwice, NotInRing, NotWellFormed, NoFounder, NoHolder, NoHub, NoWayRound, OutputShort, RecordShort}
 use Rattle.protocol.specs.Record.{most_nodes, row_size, row_start, record_size, none, State, count, count_in, row, read, words}
 use Rattle.protocol.specs.WellFormed.{well_formed}
 use Rattle.protocol.specs.Fresh.{smallest, fresh}
 use Rattle.protocol.specs.Routing.{in_ring}
 use Rattle.protocol.specs.Step.{Result, refused, accepted, step}
 use Rattle.protocol.specs.Membership.{holds}
-use Rattle.protocol.specs.Answers.{roll_refusal, roll_words}
+use Rattle.protocol.specs.Answers.{refusal, number_words}
 
 -- 'are there 1,988 words? 1.'
 unfoldable pub long : List ℕ → Bool
 long w = nat_le record_size (length w)
 
--- Every call but fresh: questions 1 and 2. `no_result k` is the refusal with number k.
-unfoldable pub on_record : {A : Type 0} → List ℕ → (ℕ → A) → A → A
-on_record w no_result rest = require (long w) (no_result RECORD_SHORT) (require (well_formed w) (no_result NOT_WELL_FORMED) rest)
+-- Every call but fresh: questions 1 and 2. `no_result k` is the refusal k.
+unfoldable pub on_record : {A : Type 0} → List ℕ → (Refusal → A) → A → A
+on_record w no_result rest = require (long w) (no_result RecordShort) (require (well_formed w) (no_result NotWellFormed) rest)
 
 -- What a step or a fresh call leaves: its outcome, and the lent slice.
 pub record Called : Type 0 where
   pub outcome : Outcome
   pub slice : List ℕ
 
-abbrev pub turned_down : List ℕ → ℕ → Called
-turned_down w k = record { outcome = Refused k; slice = w }
+abbrev pub turned_down : List ℕ → Refusal → Called
+turned_down w k = record { outcome = Err k; slice = w }
 
 -- 'later ones are never read or written'
 unfoldable pub written : List ℕ → Result → Called
 written w (refused k) = turned_down w k
-written w (accepted a s) = record { outcome = Answered a; slice = words s ++ drop record_size w }
+written w (accepted a s) = record { outcome = Ok a; slice = words s ++ drop record_size w }
 
 unfoldable pub step_call : List ℕ → ℕ → ℕ → ℕ → Called
 step_call w operation x y = on_record w (turned_down w) (written w (step (read w) operation x y))
@@ -46,10 +43,10 @@ step_call w operation x y = on_record w (turned_down w) (written w (step (read w
 -- whether the founder is one of the hubs (18). It answers quiet.
 unfoldable pub fresh_by_call : List ℕ → List ℕ → ℕ → Called
 fresh_by_call w ids founder =
-    require (long w) (turned_down w RECORD_SHORT)
-    (require (nat_le 1 (length ids) && nat_le (length ids) most_nodes) (turned_down w IDENTIFIER_COUNT)
-    (require (distinct ids) (turned_down w IDENTIFIER_TWICE)
-    (require (nat_lt founder (length ids)) (turned_down w NO_FOUNDER)
+    require (long w) (turned_down w RecordShort)
+    (require (nat_le 1 (length ids) && nat_le (length ids) most_nodes) (turned_down w IdentifierCount)
+    (require (distinct ids) (turned_down w IdentifierTwice)
+    (require (nat_lt founder (length ids)) (turned_down w NoFounder)
     (written w (accepted Quiet (fresh ids founder))))))
 
 -- Fresh, where nobody is named.
@@ -62,9 +59,9 @@ lowest_holder s v = first (λ hub. holds s hub v) (count s)
 
 unfoldable pub owner_call : List ℕ → ℕ → Ownership
 owner_call w v =
-    on_record w OwnerRefused
-    (require (nat_lt (lowest_holder (read w) v) (count_in w)) (OwnerRefused NO_HOLDER)
-    (HeldBy (lowest_holder (read w) v)))
+    on_record w Err
+    (require (nat_lt (lowest_holder (read w) v) (count_in w)) (Err NoHolder)
+    (Ok (lowest_holder (read w) v)))
 
 -- 'The hub row is handed out as the seven words inside the caller's record'; 'on a no to 1, 2 or hub below n it hands out an empty part'.
 unfoldable pub row_call : List ℕ → ℕ → List ℕ
@@ -93,22 +90,22 @@ pub record Rolled : Type 0 where
   pub outcome : Roll
   pub output : List ℕ
 
-abbrev pub unrolled : List ℕ → ℕ → Rolled
-unrolled out k = record { outcome = RollRefused k; output = out }
+abbrev pub unrolled : List ℕ → Refusal → Rolled
+unrolled out k = record { outcome = Err k; output = out }
 
 -- 'its length, at most n, is returned and output words past it keep their content'; 'Has the output that many words? 17.'
 unfoldable pub roll_written : List ℕ → Traversal → Rolled
-roll_written out lost = unrolled out NO_WAY_ROUND
+roll_written out lost = unrolled out NoWayRound
 roll_written out (complete l) =
-    require (nat_le (length l) (length out)) (unrolled out OUTPUT_SHORT)
-    (record { outcome = Length (length l); output = l ++ drop (length l) out })
+    require (nat_le (length l) (length out)) (unrolled out OutputShort)
+    (record { outcome = Ok (length l); output = l ++ drop (length l) out })
 
 -- 'hub below n? 4. State 2 to 4? 5.', then 16 and 17
 unfoldable pub roll_call : List ℕ → ℕ → List ℕ → Rolled
 roll_call w hub out =
     on_record w (unrolled out)
-    (require (nat_lt hub (count_in w)) (unrolled out NO_HUB)
-    (require (in_ring (row (read w) hub)) (unrolled out NOT_IN_RING)
+    (require (nat_lt hub (count_in w)) (unrolled out NoHub)
+    (require (in_ring (row (read w) hub)) (unrolled out NotInRing)
     (roll_written out (roll (read w) hub (count_in w) hub))))
 
 -- The same by numbers: the refusal, 0 for none; what it says, which is the length; and the output.
@@ -118,7 +115,7 @@ pub record RolledNumbers : Type 0 where
   pub output : List ℕ
 
 abbrev pub numbered : List ℕ → Roll → RolledNumbers
-numbered out r = record { code = roll_refusal r; said = roll_words r; output = out }
+numbered out r = record { code = refusal r; said = number_words r; output = out }
 
 abbrev pub roll_numbers : List ℕ → ℕ → List ℕ → RolledNumbers
 roll_numbers w hub out = numbered (roll_call w hub out).output (roll_call w hub out).outcome

@@ -2,9 +2,10 @@
 -- words count: nothing behind them is read or written.
 use Rattle.std.specs.Prelude.{List, ℕ, nat_le, length, take}
 use Rattle.lists.specs.Basics.{require}
-use Rattle.protocol.specs.Names.{OUTPUT_SHORT}
+use Rattle.protocol.specs.declared.refusal.Refusal.TheVariants.{OutputShort}
 use Rattle.protocol.specs.Record.{record_size}
 use Rattle.protocol.specs.Fresh.{smallest}
+use Rattle.protocol.specs.Refusals.{number_of}
 use Rattle.protocol.specs.Answers.{refusal, outcome_words}
 use Rattle.protocol.specs.Bytes.{words_of, over, bytes_after}
 use Rattle.protocol.specs.Cards.{book_size, CardsCalled, step_cards, offer_call, fresh_by_cards}
@@ -33,7 +34,7 @@ carried_cards bytes book out called = record {
 -- As for the step without cards, the five words of output are asked for before everything else.
 unfoldable pub step_cards_bytes : List ℕ → List ℕ → ℕ → ℕ → ℕ → List ℕ → CardsBytes
 step_cards_bytes bytes book operation x y out =
-    require (nat_le 20 (length out)) (record { code = OUTPUT_SHORT; bytes = bytes; book = book; output = out })
+    require (nat_le 20 (length out)) (record { code = number_of OutputShort; bytes = bytes; book = book; output = out })
     (carried_cards bytes book out (step_cards (record_of bytes) (book_of book) operation x y))
 
 -- What an offer leaves: the number returned, and the bytes lent for the cards. The record is only read.

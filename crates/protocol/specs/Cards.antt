@@ -5,9 +5,10 @@ use Rattle.lists.specs.Basics.{when◌then◌else◌, require, every, distinct, 
 use Rattle.protocol.specs.declared.Card.{Card}
 use Rattle.protocol.specs.declared.Answer.{Answer}
 use Rattle.protocol.specs.declared.Answer.TheVariants.{Quiet, Found, Entered, Gone, JoinTurnedAway, LeaveTurnedAway, Joined, Left}
-use Rattle.protocol.specs.declared.Outcome.{Outcome}
-use Rattle.protocol.specs.declared.Outcome.TheVariants.{Refused, Answered}
-use Rattle.protocol.specs.Names.{CARDS_FULL, NOT_WELL_FORMED, PRICE_DIFFERS, RECORD_SHORT, REVISION_LOWER}
+use Rattle.protocol.specs.Outcomes.{Outcome}
+use Rattle.std.specs.Prelude.{Err, Ok}
+use Rattle.protocol.specs.declared.refusal.Refusal.{Refusal}
+use Rattle.protocol.specs.declared.refusal.Refusal.TheVariants.{CardsFull, NotWellFormed, PriceDiffers, RecordShort, RevisionLower}
 use Rattle.protocol.specs.Record.{most_nodes, none, read}
 use Rattle.protocol.specs.WellFormed.{identifiers, well_formed}
 use Rattle.protocol.specs.Fresh.{smallest}
@@ -103,9 +104,9 @@ rehoused ids members c = record { machine = c.machine; revision = c.revision; pr
 unfoldable pub moved : List ℕ → Book → List ℕ → Book
 moved ids b marks = record { marks = marks; cards = map (rehoused ids (marked marks)) b.cards }
 
--- What an offered card does to the cards: it is declined by a number, or these are the cards kept.
+-- What an offered card does to the cards: it is declined, or these are the cards kept.
 pub data Offered : Type 0 where
-  declined : ℕ → Offered
+  declined : Refusal → Offered
   kept : List Card → Offered
 
 abbrev pub no_card : Card
@@ -119,8 +120,8 @@ place cards machine = first (λ j. nat_eq (get_or cards j no_card).machine machi
 unfoldable pub renewed : List Card → ℕ → Card → Card → Offered
 renewed cards j old c =
     when nat_lt old.revision c.revision then kept (set cards j c)
-    else require (nat_eq old.revision c.revision) (declined REVISION_LOWER)
-    (require (nat_eq old.price c.price) (declined PRICE_DIFFERS)
+    else require (nat_eq old.revision c.revision) (declined RevisionLower)
+    (require (nat_eq old.price c.price) (declined PriceDiffers)
     (kept cards))
 
 -- The card of a new machine goes last.
@@ -128,7 +129,7 @@ unfoldable pub offered : List Card → Card → Offered
 offered cards c =
     when nat_lt (place cards c.machine) (length cards)
     then renewed cards (place cards c.machine) (get_or cards (place cards c.machine) no_card) c
-    else require (nat_lt (length cards) most_cards) (declined CARDS_FULL) (kept (cards ++ (c ∷ [])))
+    else require (nat_lt (length cards) most_cards) (declined CardsFull) (kept (cards ++ (c ∷ [])))
 
 -- What a call leaves: its outcome, the slice lent for the record and the one lent for the cards.
 pub record CardsCalled : Type 0 where
@@ -136,18 +137,18 @@ pub record CardsCalled : Type 0 where
   pub slice : List ℕ
   pub cards : List ℕ
 
-abbrev pub unchanged : List ℕ → List ℕ → ℕ → CardsCalled
-unchanged w k number = record { outcome = Refused number; slice = w; cards = k }
+abbrev pub unchanged : List ℕ → List ℕ → Refusal → CardsCalled
+unchanged w k number = record { outcome = Err number; slice = w; cards = k }
 
 -- The first questions: are both slices long enough, the record's first? Are both well formed, the record first?
 unfoldable pub both_long : List ℕ → List ℕ → CardsCalled → CardsCalled
-both_long w k rest = require (long w) (unchanged w k RECORD_SHORT) (require (nat_le book_size (length k)) (unchanged w k RECORD_SHORT) rest)
+both_long w k rest = require (long w) (unchanged w k RecordShort) (require (nat_le book_size (length k)) (unchanged w k RecordShort) rest)
 
 unfoldable pub on_both : List ℕ → List ℕ → CardsCalled → CardsCalled
 on_both w k rest =
     both_long w k
-    (require (well_formed w) (unchanged w k NOT_WELL_FORMED)
-    (require (book_ok (identifiers (read w)) k) (unchanged w k NOT_WELL_FORMED)
+    (require (well_formed w) (unchanged w k NotWellFormed)
+    (require (book_ok (identifiers (read w)) k) (unchanged w k NotWellFormed)
     rest))
 
 -- The words of a book in the lent slice; those behind them stay.
@@ -160,20 +161,20 @@ abbrev pub remarked : List ℕ → List ℕ → ℕ → ℕ → List ℕ
 remarked w k hub mark = put_book k (moved (identifiers (read w)) (read_book k) (set (marks_in k) hub mark))
 
 unfoldable pub following : List ℕ → List ℕ → List ℕ → Answer → CardsCalled
-following w k slice Quiet = record { outcome = Answered Quiet; slice = slice; cards = k }
-following w k slice (Found hub number ticket hops) = record { outcome = Answered (Found hub number ticket hops); slice = slice; cards = k }
-following w k slice (Entered hub) = record { outcome = Answered (Entered hub); slice = slice; cards = remarked w k hub 1 }
+following w k slice Quiet = record { outcome = Ok Quiet; slice = slice; cards = k }
+following w k slice (Found hub number ticket hops) = record { outcome = Ok (Found hub number ticket hops); slice = slice; cards = k }
+following w k slice (Entered hub) = record { outcome = Ok (Entered hub); slice = slice; cards = remarked w k hub 1 }
 following w k slice (Gone hub) =
-    require (nat_le 1 (length (marked (set (marks_in k) hub 0)))) (unchanged w k NOT_WELL_FORMED)
-    (record { outcome = Answered (Gone hub); slice = slice; cards = remarked w k hub 0 })
-following w k slice (JoinTurnedAway hub) = record { outcome = Answered (JoinTurnedAway hub); slice = slice; cards = k }
-following w k slice (LeaveTurnedAway hub) = record { outcome = Answered (LeaveTurnedAway hub); slice = slice; cards = k }
-following w k slice (Joined hub) = record { outcome = Answered (Joined hub); slice = slice; cards = k }
-following w k slice (Left hub) = record { outcome = Answered (Left hub); slice = slice; cards = k }
+    require (nat_le 1 (length (marked (set (marks_in k) hub 0)))) (unchanged w k NotWellFormed)
+    (record { outcome = Ok (Gone hub); slice = slice; cards = remarked w k hub 0 })
+following w k slice (JoinTurnedAway hub) = record { outcome = Ok (JoinTurnedAway hub); slice = slice; cards = k }
+following w k slice (LeaveTurnedAway hub) = record { outcome = Ok (LeaveTurnedAway hub); slice = slice; cards = k }
+following w k slice (Joined hub) = record { outcome = Ok (Joined hub); slice = slice; cards = k }
+following w k slice (Left hub) = record { outcome = Ok (Left hub); slice = slice; cards = k }
 
 unfoldable pub after_call : List ℕ → List ℕ → List ℕ → Outcome → CardsCalled
-after_call w k slice (Refused number) = unchanged w k number
-after_call w k slice (Answered a) = following w k slice a
+after_call w k slice (Err number) = unchanged w k number
+after_call w k slice (Ok a) = following w k slice a
 
 -- The step with cards: the questions of both slices, the step's own, and last the only member.
 unfoldable pub step_cards : List ℕ → List ℕ → ℕ → ℕ → ℕ → CardsCalled
@@ -183,7 +184,7 @@ step_cards w k operation x y =
 -- An offer: the hub of the card is filled in. It answers quiet, and leaves the record.
 unfoldable pub offer_written : List ℕ → List ℕ → Offered → CardsCalled
 offer_written w k (declined number) = unchanged w k number
-offer_written w k (kept cards) = record { outcome = Answered Quiet; slice = w; cards = put_book k (record { marks = marks_in k; cards = cards }) }
+offer_written w k (kept cards) = record { outcome = Ok Quiet; slice = w; cards = put_book k (record { marks = marks_in k; cards = cards }) }
 
 unfoldable pub offer_call : List ℕ → List ℕ → ℕ → ℕ → ℕ → CardsCalled
 offer_call w k machine revision price =
@@ -192,8 +193,8 @@ offer_call w k machine revision price =
 
 -- Fresh with cards, the founder named: the lengths of both slices, then the questions of fresh. Only an accepted call writes the new book.
 unfoldable pub with_new_book : List ℕ → List ℕ → ℕ → List ℕ → Outcome → CardsCalled
-with_new_book w k hub slice (Refused number) = unchanged w k number
-with_new_book w k hub slice (Answered a) = record { outcome = Answered a; slice = slice; cards = put_book k (new_book hub) }
+with_new_book w k hub slice (Err number) = unchanged w k number
+with_new_book w k hub slice (Ok a) = record { outcome = Ok a; slice = slice; cards = put_book k (new_book hub) }
 
 unfoldable pub fresh_by_cards : List ℕ → List ℕ → List ℕ → ℕ → CardsCalled
 fresh_by_cards w k ids founder =

@@ -2,8 +2,9 @@
 -- A line is its bytes without LF, which ends it.
 use Rattle.std.specs.Prelude.{Bool, ◌&&◌, ◌||◌, List, [], ◌∷◌, ◌++◌, ℕ, ◌+◌, ◌-◌, ◌*◌, ◌/◌, ◌%◌, nat_le, nat_lt, nat_eq, length, get_or, replicate}
 use Rattle.lists.specs.Basics.{when◌then◌else◌, require, every, table}
-use Rattle.protocol.specs.declared.Outcome.{Outcome}
-use Rattle.protocol.specs.declared.Outcome.TheVariants.{Refused, Answered}
+use Rattle.protocol.specs.Refusals.{number_of}
+use Rattle.protocol.specs.Outcomes.{Outcome}
+use Rattle.std.specs.Prelude.{Err, Ok}
 use Rattle.protocol.specs.declared.Frame.{Frame}
 use Rattle.protocol.specs.declared.Frame.TheVariants.{Founding, Command, Unreadable}
 use Rattle.protocol.specs.declared.Line.{Line}
@@ -78,8 +79,8 @@ unfoldable pub fields_text : List ℕ → List ℕ
 fields_text f = print2 (get_or f 0 0) ++ (print2 (get_or f 1 0) ++ (print8 (get_or f 2 0) ++ (print8 (get_or f 3 0) ++ print4 (get_or f 4 0))))
 
 unfoldable pub outcome_text : Outcome → List ℕ
-outcome_text (Refused k) = refusal_text k
-outcome_text (Answered a) = fields_text (answer_words a)
+outcome_text (Err k) = refusal_text (number_of k)
+outcome_text (Ok a) = fields_text (answer_words a)
 
 -- 'prints one line each': the text and LF (10). A text has at most 24 bytes; what is left of the 25 is LF too.
 unfoldable pub line : List ℕ → Line

@@ -2,8 +2,7 @@
 use Rattle.std.specs.Prelude.{List, [], map, ℕ, nat_le, length, get_or, set}
 use Rattle.lists.specs.Basics.{first, every}
 use Rattle.protocol.specs.declared.Row.{Row}
-use Rattle.protocol.specs.declared.Founder.{Founder}
-use Rattle.protocol.specs.declared.Founder.TheVariants.{Smallest, Named}
+use Rattle.std.specs.Prelude.{None, Option, Some}
 use Rattle.protocol.specs.Names.{INSIDE}
 use Rattle.protocol.specs.Record.{none, State, outside}
 
@@ -13,9 +12,9 @@ unfoldable pub smallest : List ℕ → ℕ
 smallest ids = first (λ hub. every (nat_le (get_or ids hub 0)) ids) (length ids)
 
 -- The founder that a caller means.
-abbrev pub founder_of : Founder → List ℕ → ℕ
-founder_of Smallest ids = smallest ids
-founder_of (Named hub) ids = hub
+abbrev pub founder_of : Option ℕ → List ℕ → ℕ
+founder_of None ids = smallest ids
+founder_of (Some hub) ids = hub
 
 -- The founder's row: inside and unlocked, with itself before and behind it.
 abbrev pub alone : ℕ → ℕ → Row

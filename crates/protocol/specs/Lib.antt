@@ -1,5 +1,6 @@
 pub mod Names
 pub mod Refusals
+pub mod Outcomes
 pub mod Record
 pub mod WellFormed
 pub mod Fresh

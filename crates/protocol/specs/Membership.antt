@@ -6,8 +6,8 @@ use Rattle.lists.specs.Basics.{when◌then◌else◌}
 use Rattle.protocol.specs.declared.Message.{Message}
 use Rattle.protocol.specs.declared.Answer.{Answer}
 use Rattle.protocol.specs.declared.Answer.TheVariants.{Quiet, Found, Entered, Gone, JoinTurnedAway, LeaveTurnedAway, Joined, Left}
-use Rattle.protocol.specs.declared.Outcome.{Outcome}
-use Rattle.protocol.specs.declared.Outcome.TheVariants.{Refused, Answered}
+use Rattle.protocol.specs.Outcomes.{Outcome}
+use Rattle.std.specs.Prelude.{Err, Ok}
 use Rattle.protocol.specs.Names.{LOOKUP}
 use Rattle.protocol.specs.Record.{round, State, row, identifier}
 use Rattle.protocol.specs.Routing.{responsible, covers}
@@ -36,8 +36,8 @@ after_answer members (Joined hub) = members
 after_answer members (Left hub) = members
 
 unfoldable pub after_outcome : List ℕ → Outcome → List ℕ
-after_outcome members (Refused k) = members
-after_outcome members (Answered a) = after_answer members a
+after_outcome members (Err k) = members
+after_outcome members (Ok a) = after_answer members a
 
 -- 1 for a member, 0 for every other number.
 unfoldable pub mark : List ℕ → ℕ → ℕ
@@ -78,10 +78,10 @@ found_ticket (Joined hub) = []
 found_ticket (Left hub) = []
 
 unfoldable pub ticket_of : Outcome → List ℕ
-ticket_of (Refused k) = []
-ticket_of (Answered a) = found_ticket a
+ticket_of (Err k) = []
+ticket_of (Ok a) = found_ticket a
 
 -- 'Questions accepted are the asks in the list that were not refused': 1 for such a call
 unfoldable pub accepted_ask : ℕ → Outcome → ℕ
-accepted_ask operation (Refused k) = 0
-accepted_ask operation (Answered a) = when nat_eq operation 0 then 1 else 0
+accepted_ask operation (Err k) = 0
+accepted_ask operation (Ok a) = when nat_eq operation 0 then 1 else 0

@@ -6,23 +6,26 @@ use Rattle.protocol.specs.declared.Answer.{Answer}
 use Rattle.protocol.specs.declared.Answer.TheVariants.{Quiet, Found}
 use Rattle.protocol.specs.declared.Route.{Route}
 use Rattle.protocol.specs.declared.Route.TheVariants.{Own, To}
-use Rattle.protocol.specs.declared.Decision.{Decision}
-use Rattle.protocol.specs.declared.Decision.TheVariants.{Refuse, Reply, Send}
-use Rattle.protocol.specs.Names.{JOIN, LEAVEREQ, JOINING, LAST_HUB, LOCKED, MESSAGES_FULL, NOT_IN_RING, NOT_OUTSIDE, NO_HUB, NO_MESSAGE, NO_OPERATION, OUTSIDE, TICKETS_USED_UP, WANTING_TO_LEAVE}
+use Rattle.protocol.specs.Outcomes.{Decided}
+use Rattle.protocol.specs.declared.Decision.TheVariants.{Reply, Send}
+use Rattle.std.specs.Prelude.{Err, Ok}
+use Rattle.protocol.specs.Names.{JOIN, LEAVEREQ, JOINING, OUTSIDE, WANTING_TO_LEAVE}
+use Rattle.protocol.specs.declared.refusal.Refusal.{Refusal}
+use Rattle.protocol.specs.declared.refusal.Refusal.TheVariants.{LastHub, Locked, MessagesFull, NotInRing, NotOutside, NoHub, NoMessage, NoOperation, TicketsUsedUp}
 use Rattle.protocol.specs.Record.{most_messages, State, count, row, identifier, message, with_row, sent, without_message, ticketed}
 use Rattle.protocol.specs.Routing.{in_ring, onward}
 use Rattle.protocol.specs.Kinds.{question, note, with_state, with_lock, handle}
 
 -- A step is refused, or gives an answer and the next state. 'The first no decides.'
 pub data Result : Type 0 where
-  refused : ℕ → Result
+  refused : Refusal → Result
   accepted : Answer → State → Result
 
 -- What a decision does at hub t. 'A sent message goes last'.
-unfoldable pub conclude : State → ℕ → Decision → Result
-conclude s t (Refuse k) = refused k
-conclude s t (Reply h a) = accepted a (with_row s t h)
-conclude s t (Send h m a) = accepted a (sent (with_row s t h) m)
+unfoldable pub conclude : State → ℕ → Decided → Result
+conclude s t (Err k) = refused k
+conclude s t (Ok (Reply h a)) = accepted a (with_row s t h)
+conclude s t (Ok (Send h m a)) = accepted a (sent (with_row s t h) m)
 
 -- 'm below 256?'
 unfoldable pub room : State → Bool
@@ -31,36 +34,36 @@ room s = nat_lt (length s.messages) most_messages
 -- 0 ask, hub x, number v: 'takes ticket = asked, adds 1 to asked, then routes with no sender and hops 0.'
 unfoldable pub asking : State → ℕ → ℕ → Route → Result
 asking s x v Own = accepted (Found x v s.asked 0) (ticketed s)
-asking s x v (To z) = require (room s) (refused MESSAGES_FULL) (accepted Quiet (sent (ticketed s) (question x z v s.asked 0)))
+asking s x v (To z) = require (room s) (refused MessagesFull) (accepted Quiet (sent (ticketed s) (question x z v s.asked 0)))
 
 -- 'x in state 2 to 4? 5. asked below 4294967295? 12. If it must be sent on, m below 256? 11.'
 unfoldable pub ask : State → ℕ → ℕ → Result
 ask s x v =
-    require (nat_lt x (count s)) (refused NO_HUB)
-    (require (in_ring (row s x)) (refused NOT_IN_RING)
-    (require (nat_lt s.asked 4294967295) (refused TICKETS_USED_UP)
+    require (nat_lt x (count s)) (refused NoHub)
+    (require (in_ring (row s x)) (refused NotInRing)
+    (require (nat_lt s.asked 4294967295) (refused TicketsUsedUp)
     (asking s x v (onward (identifier s (row s x).pred) (row s x) v))))
 
 -- 1 join, hub x, contact y: 'x becomes joining, locked; sends JOIN (a = x) to y.'
 -- 'x outside? 6. y in state 2 to 4? 5. m below 256? 11.'
 unfoldable pub join : State → ℕ → ℕ → Result
 join s x y =
-    require (nat_lt x (count s) && nat_lt y (count s)) (refused NO_HUB)
-    (require (nat_eq (row s x).state OUTSIDE) (refused NOT_OUTSIDE)
-    (require (in_ring (row s y)) (refused NOT_IN_RING)
-    (require (room s) (refused MESSAGES_FULL)
-    (conclude s x (Send (with_lock (with_state (row s x) JOINING) 1) (note JOIN x y x) Quiet)))))
+    require (nat_lt x (count s) && nat_lt y (count s)) (refused NoHub)
+    (require (nat_eq (row s x).state OUTSIDE) (refused NotOutside)
+    (require (in_ring (row s y)) (refused NotInRing)
+    (require (room s) (refused MessagesFull)
+    (conclude s x (Ok (Send (with_lock (with_state (row s x) JOINING) 1) (note JOIN x y x) Quiet))))))
 
 -- 2 leave, hub x (y not read): 'x gets state 3, locked; sends LEAVEREQ to its succ.'
 -- 'x in state 2 to 4? 5. Lock free? 7. succ another hub? 8. m below 256? 11.'
 unfoldable pub leave : State → ℕ → Result
 leave s x =
-    require (nat_lt x (count s)) (refused NO_HUB)
-    (require (in_ring (row s x)) (refused NOT_IN_RING)
-    (require (nat_eq (row s x).lock 0) (refused LOCKED)
-    (require (not (nat_eq (row s x).succ x)) (refused LAST_HUB)
-    (require (room s) (refused MESSAGES_FULL)
-    (conclude s x (Send (with_lock (with_state (row s x) WANTING_TO_LEAVE) 1) (note LEAVEREQ x (row s x).succ 0) Quiet))))))
+    require (nat_lt x (count s)) (refused NoHub)
+    (require (in_ring (row s x)) (refused NotInRing)
+    (require (nat_eq (row s x).lock 0) (refused Locked)
+    (require (not (nat_eq (row s x).succ x)) (refused LastHub)
+    (require (room s) (refused MessagesFull)
+    (conclude s x (Ok (Send (with_lock (with_state (row s x) WANTING_TO_LEAVE) 1) (note LEAVEREQ x (row s x).succ 0) Quiet)))))))
 
 -- 3 deliver from x to y: 'the oldest message with that from and to'; its place, or the number of messages where there is none
 unfoldable pub on_link : State → ℕ → ℕ → ℕ → Bool
@@ -77,8 +80,8 @@ delivered s t j =
 -- 'such a message? 9. Receiver, and hub a for JOIN, as required? 10.'
 unfoldable pub deliver : State → ℕ → ℕ → Result
 deliver s x y =
-    require (nat_lt x (count s) && nat_lt y (count s)) (refused NO_HUB)
-    (require (nat_lt (oldest s x y) (length s.messages)) (refused NO_MESSAGE)
+    require (nat_lt x (count s) && nat_lt y (count s)) (refused NoHub)
+    (require (nat_lt (oldest s x y) (length s.messages)) (refused NoMessage)
     (delivered s y (oldest s x y)))
 
 -- 'operation 0 to 3? 3.'
@@ -88,4 +91,4 @@ step s operation x y =
     else when nat_eq operation 1 then join s x y
     else when nat_eq operation 2 then leave s x
     else when nat_eq operation 3 then deliver s x y
-    else refused NO_OPERATION
+    else refused NoOperation

@@ -61,13 +61,6 @@ pub enum Answer {
     Left(u32),
 }
 
-// What a step or a fresh call gives: an answer, or the number of a refusal.
-#[derive(Clone, Copy)]
-pub enum Outcome {
-    Refused(u32),
-    Answered(Answer),
-}
-
 // Where a key (document 01: machine number) goes from a node: the node owns it, or sends it on.
 #[derive(Clone, Copy)]
 pub enum Route {
@@ -75,34 +68,12 @@ pub enum Route {
     To(u32),
 }
 
-// What a command or a delivered message does at one node: a refusal; or the node's new row and an
-// answer; or these and one message sent.
+// What a command or a delivered message does at one node, where it is not refused: the node's new row and an answer; or these and one
+// message sent.
 #[derive(Clone, Copy)]
 pub enum Decision {
-    Refuse(u32),
     Reply(Row, Answer),
     Send(Row, Message, Answer),
-}
-
-// Who founds a ring: the node with the smallest identifier, or the one that the caller names.
-#[derive(Clone, Copy)]
-pub enum Founder {
-    Smallest,
-    Named(u32),
-}
-
-// What the owner query gives: the node that holds the key, or the number of a refusal.
-#[derive(Clone, Copy)]
-pub enum Ownership {
-    Refused(u32),
-    HeldBy(u32),
-}
-
-// What a roll call gives: the length of the roll, or the number of a refusal.
-#[derive(Clone, Copy)]
-pub enum Roll {
-    Refused(u32),
-    Length(u32),
 }
 
 // How many steps gave each kind of answer, and how many were refused.

@@ -6,8 +6,8 @@ use Rattle.std.proofs.Common.{nat_lt}
 use borrow.Author.Tests.{lt-ltb, le-ltb}
 use Rattle.lists.specs.Choice.{on_yes, on_no}
 use Rattle.lists.specs.Basics.{first}
-use Rattle.protocol.specs.declared.Ownership.TheVariants.{Refused, HeldBy}
-use Rattle.protocol.specs.Names.{NO_HOLDER, NO_HUB, NOT_IN_RING, NOT_WELL_FORMED, RECORD_SHORT}
+use Rattle.std.specs.Prelude.{Err, Ok}
+use Rattle.protocol.specs.declared.refusal.Refusal.TheVariants.{NoHolder, NoHub, NotInRing, NotWellFormed, RecordShort}
 use Rattle.protocol.specs.Record.{record_size, row_size, row_start, count_in, row, identifier, read}
 use Rattle.protocol.specs.WellFormed.{well_formed}
 use Rattle.protocol.specs.Routing.{in_ring, responsible, covers}
@@ -36,23 +36,23 @@ module _ (w : List ℕ) where
     pub lowest_read : lowest_holder (read w) v ≡ first (λ node. holds (read w) node v) n
     lowest_read = ap (first (λ node. holds (read w) node v)) (count_of_read w)
 
-    pub owner_1 : length w < record_size → owner_call w v ≡ Refused RECORD_SHORT
+    pub owner_1 : length w < record_size → owner_call w v ≡ Err RecordShort
     unfolding owner_call
-    owner_1 l = record_1 w Refused _ l
+    owner_1 l = record_1 w Err _ l
 
-    pub owner_2 : record_size ≤ length w → well_formed w ≡ false → owner_call w v ≡ Refused NOT_WELL_FORMED
+    pub owner_2 : record_size ≤ length w → well_formed w ≡ false → owner_call w v ≡ Err NotWellFormed
     unfolding owner_call
-    owner_2 l e = record_2 w Refused _ l e
+    owner_2 l e = record_2 w Err _ l e
 
     -- k is the lowest holder
     module _ (ok : Valid w) (k : ℕ) (e : k ≡ lowest_holder (read w) v) where
-      pub owner_15 : n ≤ k → owner_call w v ≡ Refused NO_HOLDER
+      pub owner_15 : n ≤ k → owner_call w v ≡ Err NoHolder
       unfolding owner_call
-      owner_15 l = record_rest w Refused _ ok.long ok.formed ∙ on_no _ _ _ (ap (λ z. nat_lt z n) (sym e) ∙ le-ltb k n l)
+      owner_15 l = record_rest w Err _ ok.long ok.formed ∙ on_no _ _ _ (ap (λ z. nat_lt z n) (sym e) ∙ le-ltb k n l)
 
-      pub owner_holder : k < n → owner_call w v ≡ HeldBy k
+      pub owner_holder : k < n → owner_call w v ≡ Ok k
       unfolding owner_call
-      owner_holder l = record_rest w Refused _ ok.long ok.formed ∙ on_yes _ _ _ (ap (λ z. nat_lt z n) (sym e) ∙ lt-ltb k n l) ∙ ap HeldBy (sym e)
+      owner_holder l = record_rest w Err _ ok.long ok.formed ∙ on_yes _ _ _ (ap (λ z. nat_lt z n) (sym e) ∙ lt-ltb k n l) ∙ ap Ok (sym e)
 
   -- the hub row
   module _ (node : ℕ) where
@@ -74,20 +74,20 @@ module _ (w : List ℕ) where
 
   -- the roll call
   module _ (node : ℕ) (out : List ℕ) where
-    pub roll_1 : length w < record_size → roll_call w node out ≡ unrolled out RECORD_SHORT
+    pub roll_1 : length w < record_size → roll_call w node out ≡ unrolled out RecordShort
     unfolding roll_call
     roll_1 l = record_1 w (unrolled out) _ l
 
-    pub roll_2 : record_size ≤ length w → well_formed w ≡ false → roll_call w node out ≡ unrolled out NOT_WELL_FORMED
+    pub roll_2 : record_size ≤ length w → well_formed w ≡ false → roll_call w node out ≡ unrolled out NotWellFormed
     unfolding roll_call
     roll_2 l e = record_2 w (unrolled out) _ l e
 
     module _ (ok : Valid w) where
-      pub roll_4 : n ≤ node → roll_call w node out ≡ unrolled out NO_HUB
+      pub roll_4 : n ≤ node → roll_call w node out ≡ unrolled out NoHub
       unfolding roll_call
       roll_4 l = record_rest w (unrolled out) _ ok.long ok.formed ∙ on_no _ _ _ (le-ltb node n l)
 
-      pub roll_5 : node < n → in_ring (row (read w) node) ≡ false → roll_call w node out ≡ unrolled out NOT_IN_RING
+      pub roll_5 : node < n → in_ring (row (read w) node) ≡ false → roll_call w node out ≡ unrolled out NotInRing
       unfolding roll_call
       roll_5 l e = record_rest w (unrolled out) _ ok.long ok.formed ∙ on_yes _ _ _ (lt-ltb node n l) ∙ on_no _ _ _ e
 

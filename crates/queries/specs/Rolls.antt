@@ -13,28 +13,28 @@ use borrow.Author.Tests.{eq-eqb, ne_eqb, le-leb, lt-leb}
 use Rattle.lists.specs.Basics.{when◌then◌else◌, require}
 use Rattle.lists.specs.Choice.{on_yes, on_no}
 use Rattle.lists.specs.Splice.{splice}
-use Rattle.protocol.specs.declared.Roll.{Roll}
-use Rattle.protocol.specs.declared.Roll.TheVariants.{Refused, Length}
-use Rattle.protocol.specs.Names.{NO_WAY_ROUND, OUTPUT_SHORT}
+use Rattle.protocol.specs.Outcomes.{Roll}
+use Rattle.std.specs.Prelude.{Err, Ok}
+use Rattle.protocol.specs.declared.refusal.Refusal.TheVariants.{NoWayRound, OutputShort}
 use Rattle.protocol.specs.Record.{none, State, row}
 use Rattle.protocol.specs.Calls.{Traversal, lost, complete, followed_by, roll, Rolled, unrolled, roll_written}
 
 -- What a roll leaves that is written from a place on: the places before it are for the nodes that come before.
 unfoldable pub rolled_from : List ℕ → ℕ → Traversal → Rolled
-rolled_from out at lost = unrolled out NO_WAY_ROUND
+rolled_from out at lost = unrolled out NoWayRound
 rolled_from out at (complete l) =
-    require (nat_le (at + length l) (length out)) (unrolled out OUTPUT_SHORT)
-    (record { outcome = Length (at + length l); output = splice out at l })
+    require (nat_le (at + length l) (length out)) (unrolled out OutputShort)
+    (record { outcome = Ok (at + length l); output = splice out at l })
 
 -- What one node more, before the rest of the roll, leaves.
 unfoldable pub preceded : List ℕ → ℕ → ℕ → Roll → Rolled
-preceded out at node (Refused k) = unrolled out k
-preceded out at node (Length k) = record { outcome = Length k; output = set out at node }
+preceded out at node (Err k) = unrolled out k
+preceded out at node (Ok k) = record { outcome = Ok k; output = set out at node }
 
 -- Where the rest of a roll is written, there is a place for the node before it.
 unfoldable pub Room : List ℕ → ℕ → Roll → Type 0
-Room out at (Refused k) = Unit {0}
-Room out at (Length k) = at < length out
+Room out at (Err k) = Unit {0}
+Room out at (Ok k) = at < length out
 
 -- A roll call writes from the start of the output on.
 pub from_start : (out : List ℕ) (t : Traversal) → roll_written out t ≡ rolled_from out 0 t
@@ -70,20 +70,20 @@ length_splice out at l h = simp (length-append, length-take, length-drop) (omega
 
 -- a roll that comes back, with and without room in the output
 module _ (out : List ℕ) (at : ℕ) (l : List ℕ) where
-  fits : at + length l ≤ length out → rolled_from out at (complete l) ≡ record { outcome = Length (at + length l); output = splice out at l }
+  fits : at + length l ≤ length out → rolled_from out at (complete l) ≡ record { outcome = Ok (at + length l); output = splice out at l }
   unfolding rolled_from
   fits h = on_yes _ _ _ (le-leb (at + length l) (length out) h)
 
-  short : length out < at + length l → rolled_from out at (complete l) ≡ unrolled out OUTPUT_SHORT
+  short : length out < at + length l → rolled_from out at (complete l) ≡ unrolled out OutputShort
   unfolding rolled_from
   short h = on_no _ _ _ (lt-leb (at + length l) (length out) h)
 
 module _ (out : List ℕ) (at node : ℕ) where
   -- the last node of a roll
-  pub last_written : at < length out → rolled_from out at (complete (node ∷ [])) ≡ record { outcome = Length (at + 1); output = set out at node }
-  last_written h = fits out at (node ∷ []) (omega arith) ∙ ap (λ l. record { outcome = Length (at + 1); output = l }) (splice_one out at node h)
+  pub last_written : at < length out → rolled_from out at (complete (node ∷ [])) ≡ record { outcome = Ok (at + 1); output = set out at node }
+  last_written h = fits out at (node ∷ []) (omega arith) ∙ ap (λ l. record { outcome = Ok (at + 1); output = l }) (splice_one out at node h)
 
-  pub last_17 : length out ≤ at → rolled_from out at (complete (node ∷ [])) ≡ unrolled out OUTPUT_SHORT
+  pub last_17 : length out ≤ at → rolled_from out at (complete (node ∷ [])) ≡ unrolled out OutputShort
   last_17 h = short out at (node ∷ []) (omega arith)
 
   abbrev after : Rolled → Rolled
@@ -101,7 +101,7 @@ module _ (out : List ℕ) (at node : ℕ) where
       go : Dec (at + 1 + length l ≤ length out) → rolled_from out at (complete (node ∷ l)) ≡ after (rolled_from out (at + 1) (complete l))
       go (yes h) =
           fits out at (node ∷ l) (omega arith)
-          ∙ ap₂ (λ k z. record { outcome = Length k; output = z }) e (sym (set_splice out at node l h))
+          ∙ ap₂ (λ k z. record { outcome = Ok k; output = z }) e (sym (set_splice out at node l h))
           ∙ ap after (sym (fits out (at + 1) l h))
       go (no h) = short out at (node ∷ l) (omega arith) ∙ ap after (sym (short out (at + 1) l (omega arith)))
 
@@ -127,7 +127,7 @@ module _ (s : State) (start left node : ℕ) (out : List ℕ) (at : ℕ) where
   abbrev rolled : Rolled
   rolled = rolled_from out at (roll s start left node)
 
-  pub over_16 : left ≡ 0 → rolled ≡ unrolled out NO_WAY_ROUND
+  pub over_16 : left ≡ 0 → rolled ≡ unrolled out NoWayRound
   unfolding roll rolled_from
   over_16 e = ap (λ k. rolled_from out at (roll s start k node)) e
 
@@ -151,7 +151,7 @@ module _ (s : State) (start left node : ℕ) (out : List ℕ) (at : ℕ) where
     unfolding when◌then◌else◌
     ends p = ap (rolled_from out at) (step ∙ rw (eq-eqb next start p))
 
-    pub lost_16 : (next ≡ start → ⊥) → next ≡ none → rolled ≡ unrolled out NO_WAY_ROUND
+    pub lost_16 : (next ≡ start → ⊥) → next ≡ none → rolled ≡ unrolled out NoWayRound
     unfolding when◌then◌else◌ rolled_from
     lost_16 p q = ap (rolled_from out at) {y = lost} (step ∙ rw (ne_eqb next start p, eq-eqb next none q))
 

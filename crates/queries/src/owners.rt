@@ -6,7 +6,7 @@ ghost use Rattle.protocol.specs.Calls.{lowest_holder, owner_call};
 ghost use Rattle.layout.specs.Form.{Valid};
 
 use protocol::form::RECORD_WORDS;
-use protocol::{Ownership, refusals};
+use protocol::Refusal;
 use record::{identifier_of, row_of};
 use routing::{covers, responsible};
 
@@ -41,18 +41,18 @@ fn first_holder(w: &[u32], v: u32) -> u32
 }
 
 // The node that holds a number.
-pub fn owner(w: &[u32], number: u32) -> Ownership
+pub fn owner(w: &[u32], number: u32) -> Result<u32, Refusal>
     ensures { result ≡ owner_call w.now number }
 {
     if w.len() < RECORD_WORDS {
-        return Ownership::Refused(refusals::RECORD_SHORT);
+        return Err(Refusal::RecordShort);
     }
     if !wellformed::well_formed(w) {
-        return Ownership::Refused(refusals::NOT_WELL_FORMED);
+        return Err(Refusal::NotWellFormed);
     }
     let node = first_holder(w, number);
     if node < w[1] {
-        return Ownership::HeldBy(node);
+        return Ok(node);
     }
-    Ownership::Refused(refusals::NO_HOLDER)
+    Err(Refusal::NoHolder)
 }

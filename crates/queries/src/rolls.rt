@@ -6,45 +6,45 @@ ghost use Rattle.layout.specs.Form.{Valid};
 ghost use Rattle.queries.specs.Rolls.{Room, rolled_from, preceded};
 
 use protocol::form::{NONE, RECORD_WORDS};
-use protocol::{Roll, refusals};
+use protocol::Refusal;
 use record::row_of;
 use routing::in_ring;
 
 // The last node of a roll, at its place. The length of the roll is known here, and so whether the output is long enough.
-fn put_last(output: &mut [u32], at: u32, node: u32) -> Roll
+fn put_last(output: &mut [u32], at: u32, node: u32) -> Result<u32, Refusal>
     requires { at + 1 ≤ most_nodes }
     ensures { rolled_from output.old at (complete (node ∷ [])) ≡ record { outcome = result; output = output.new } }
 {
     let place = at as usize;
     if place < output.len() {
         output[place] = node;
-        return Roll::Length(at + 1);
+        return Ok(at + 1);
     }
-    Roll::Refused(refusals::OUTPUT_SHORT)
+    Err(Refusal::OutputShort)
 }
 
 // A node at its place, where what follows it is written; after a refusal nothing is.
-fn put_before(output: &mut [u32], at: u32, node: u32, rest: Roll) -> Roll
+fn put_before(output: &mut [u32], at: u32, node: u32, rest: Result<u32, Refusal>) -> Result<u32, Refusal>
     requires { Room output.old at rest }
     ensures { preceded output.old at node rest ≡ record { outcome = result; output = output.new } }
 {
     match rest {
-        Roll::Refused(k) => Roll::Refused(k),
-        Roll::Length(k) => {
+        Err(k) => Err(k),
+        Ok(k) => {
             output[at as usize] = node;
-            Roll::Length(k)
+            Ok(k)
         }
     }
 }
 
 // The roll from a node on, of at most so many nodes as are left, written from a place of the output on. It is written on the way back,
 // when it is known that the roll ends and that the output has room for it: a refusal writes nothing.
-fn roll(w: &[u32], start: u32, left: u32, node: u32, output: &mut [u32], at: u32) -> Roll
+fn roll(w: &[u32], start: u32, left: u32, node: u32, output: &mut [u32], at: u32) -> Result<u32, Refusal>
     requires { (Valid w.now) × (at + left ≤ most_nodes) }
     ensures { rolled_from output.old at (roll_spec (read w.now) start left node) ≡ record { outcome = result; output = output.new } }
 {
     if left == 0 {
-        return Roll::Refused(refusals::NO_WAY_ROUND);
+        return Err(Refusal::NoWayRound);
     }
     let h = row_of(w, node);
     let next = h.succ;
@@ -52,37 +52,37 @@ fn roll(w: &[u32], start: u32, left: u32, node: u32, output: &mut [u32], at: u32
         return put_last(output, at, node);
     }
     if next == NONE {
-        return Roll::Refused(refusals::NO_WAY_ROUND);
+        return Err(Refusal::NoWayRound);
     }
     let rest = roll(w, start, left - 1, next, output, at + 1);
     put_before(output, at, node, rest)
 }
 
 // 'hub below n? 4. State 2 to 4? 5.' The roll may take in every node once.
-fn roll_from(w: &[u32], node: u32, output: &mut [u32]) -> Roll
+fn roll_from(w: &[u32], node: u32, output: &mut [u32]) -> Result<u32, Refusal>
     requires { Valid w.now }
     ensures { roll_call w.now node output.old ≡ record { outcome = result; output = output.new } }
 {
     let n = w[1];
     if n <= node {
-        return Roll::Refused(refusals::NO_HUB);
+        return Err(Refusal::NoHub);
     }
     if !in_ring(row_of(w, node)) {
-        return Roll::Refused(refusals::NOT_IN_RING);
+        return Err(Refusal::NotInRing);
     }
     roll(w, node, n, node, output, 0)
 }
 
 // The nodes around the ring from a node on, into the output; words of the output behind them keep their content.
-pub fn roll_call(w: &[u32], node: u32, output: &mut [u32]) -> Roll
+pub fn roll_call(w: &[u32], node: u32, output: &mut [u32]) -> Result<u32, Refusal>
     ensures { (roll_call w.now node output.old ≡ record { outcome = result; output = output.new })
         × (roll_numbers w.now node output.old ≡ numbered output.new result) }
 {
     if w.len() < RECORD_WORDS {
-        return Roll::Refused(refusals::RECORD_SHORT);
+        return Err(Refusal::RecordShort);
     }
     if !wellformed::well_formed(w) {
-        return Roll::Refused(refusals::NOT_WELL_FORMED);
+        return Err(Refusal::NotWellFormed);
     }
     roll_from(w, node, output)
 }

@@ -5,19 +5,19 @@ ghost use Rattle.protocol.specs.Fresh.{founder_of};
 
 use crate::results::finish_fresh;
 use protocol::form::{RECORD_BYTES, RECORD_WORDS};
-use protocol::{Founder, refusals};
+use protocol::Refusal;
 use word_bytes::load;
 
 // The lent bytes are not loaded, since an accepted call writes the whole record.
-pub(crate) fn found(words: &mut [u8], identifiers: &[u8], founder: Founder) -> u32
+pub(crate) fn found(words: &mut [u8], identifiers: &[u8], founder: Option<u32>) -> u32
     ensures { fresh_by_bytes words.old identifiers.now (founder_of founder (words_of identifiers.now)) ≡ record { code = result; bytes = words.new } }
 {
     if words.len() < RECORD_BYTES {
-        return refusals::RECORD_SHORT;
+        return Refusal::RecordShort;
     }
     let n = identifiers.len() / 4;
     if 64 < n {
-        return refusals::IDENTIFIER_COUNT;
+        return Refusal::IdentifierCount;
     }
     let mut ids = [0u32; 64];
     load(identifiers, &mut ids, n);

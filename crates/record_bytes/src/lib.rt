@@ -11,7 +11,7 @@ ghost use Rattle.protocol.specs.Bytes.{step_bytes, owner_bytes, fresh_bytes, fre
 use crate::foundings::found;
 use crate::results::{finish, finish_owner};
 use protocol::form::RECORD_BYTES;
-use protocol::{Founder, refusals};
+use protocol::Refusal;
 use word_bytes::loaded;
 
 // One command on the record in the lent bytes. Only the record is loaded, since a step looks at nothing behind it.
@@ -19,10 +19,10 @@ pub fn step(words: &mut [u8], operation: u32, x: u32, y: u32, out: &mut [u8]) ->
     ensures { step_bytes words.old operation x y out.old ≡ record { code = result; bytes = words.new; output = out.new } }
 {
     if out.len() < 20 {
-        return refusals::OUTPUT_SHORT;
+        return Refusal::OutputShort;
     }
     if words.len() < RECORD_BYTES {
-        return refusals::RECORD_SHORT;
+        return Refusal::RecordShort;
     }
     let mut w = loaded(&words[..]);
     let r = steps::step(&mut w, operation, x, y);
@@ -34,10 +34,10 @@ pub fn owner(words: &[u8], number: u32, out: &mut [u8]) -> u32
     ensures { owner_bytes words.now number out.old ≡ record { code = result; output = out.new } }
 {
     if out.len() < 4 {
-        return refusals::OUTPUT_SHORT;
+        return Refusal::OutputShort;
     }
     if words.len() < RECORD_BYTES {
-        return refusals::RECORD_SHORT;
+        return Refusal::RecordShort;
     }
     let w = loaded(words);
     let r = queries::owner(&w, number);
@@ -48,12 +48,12 @@ pub fn owner(words: &[u8], number: u32, out: &mut [u8]) -> u32
 pub fn fresh(words: &mut [u8], identifiers: &[u8]) -> u32
     ensures { fresh_bytes words.old identifiers.now ≡ record { code = result; bytes = words.new } }
 {
-    found(words, identifiers, Founder::Smallest)
+    found(words, identifiers, None)
 }
 
 // A ring founded there by the node that the caller names.
 pub fn fresh_by(words: &mut [u8], identifiers: &[u8], founder: u32) -> u32
     ensures { fresh_by_bytes words.old identifiers.now founder ≡ record { code = result; bytes = words.new } }
 {
-    found(words, identifiers, Founder::Named(founder))
+    found(words, identifiers, Some(founder))
 }

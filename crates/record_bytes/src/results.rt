@@ -3,17 +3,17 @@ ghost use Rattle.std.specs.Prelude.{◌≡◌, ◌*◌, ◌≤◌, length};
 ghost use Rattle.protocol.specs.Bytes.{carried, told, fresh_carried};
 
 use answers::answer_words;
-use protocol::{Outcome, Ownership};
+use protocol::{Answer, Refusal};
 use word_bytes::save;
 
 // A step that leaves the words w.
-pub(crate) fn finish(words: &mut [u8], out: &mut [u8], w: &[u32], r: Outcome) -> u32
+pub(crate) fn finish(words: &mut [u8], out: &mut [u8], w: &[u32], r: Result<Answer, Refusal>) -> u32
     requires { (4 * length w.now ≤ length words.old) × (20 ≤ length out.old) }
     ensures { carried words.old out.old (record { outcome = r; slice = w.now }) ≡ record { code = result; bytes = words.new; output = out.new } }
 {
     match r {
-        Outcome::Refused(k) => k,
-        Outcome::Answered(a) => {
+        Err(k) => k,
+        Ok(a) => {
             save(words, w);
             let answer = answer_words(a);
             save(out, &answer);
@@ -23,13 +23,13 @@ pub(crate) fn finish(words: &mut [u8], out: &mut [u8], w: &[u32], r: Outcome) ->
 }
 
 // An owner query: one word, the hub.
-pub(crate) fn finish_owner(out: &mut [u8], r: Ownership) -> u32
+pub(crate) fn finish_owner(out: &mut [u8], r: Result<u32, Refusal>) -> u32
     requires { 4 ≤ length out.old }
     ensures { told out.old r ≡ record { code = result; output = out.new } }
 {
     match r {
-        Ownership::Refused(k) => k,
-        Ownership::HeldBy(hub) => {
+        Err(k) => k,
+        Ok(hub) => {
             let word = [hub];
             save(out, &word);
             0
@@ -38,13 +38,13 @@ pub(crate) fn finish_owner(out: &mut [u8], r: Ownership) -> u32
 }
 
 // A fresh call that leaves the words w. Its answer is quiet, and has nothing to tell.
-pub(crate) fn finish_fresh(words: &mut [u8], w: &[u32], r: Outcome) -> u32
+pub(crate) fn finish_fresh(words: &mut [u8], w: &[u32], r: Result<Answer, Refusal>) -> u32
     requires { 4 * length w.now ≤ length words.old }
     ensures { fresh_carried words.old (record { outcome = r; slice = w.now }) ≡ record { code = result; bytes = words.new } }
 {
     match r {
-        Outcome::Refused(k) => k,
-        Outcome::Answered(_) => {
+        Err(k) => k,
+        Ok(_) => {
             save(words, w);
             0
         }

@@ -4,7 +4,7 @@ ghost use Rattle.protocol.specs.Kinds.{grown as grown_spec, lookup_routed, looku
 
 use crate::messages::question;
 use crate::ways::route;
-use protocol::{Answer, Decision, Message, Route, Row, refusals, states};
+use protocol::{Answer, Decision, Message, Refusal, Route, Row, states};
 
 // Hops count the links used so far, so what a hub sent to itself adds nothing. At 65535 they stay.
 fn grown(m: Message) -> u32
@@ -20,7 +20,7 @@ fn grown(m: Message) -> u32
 }
 
 // 'Routed; the owner answers found.'
-fn lookup_routed(h: Row, m: Message, way: Route) -> Decision
+fn lookup_routed(h: Row, m: Message, way: Route) -> Result<Decision, Refusal>
     ensures { result ≡ lookup_routed h m way }
 {
     let hops = grown(m);
@@ -32,19 +32,19 @@ fn lookup_routed(h: Row, m: Message, way: Route) -> Decision
                 ticket: m.b,
                 hops,
             };
-            Decision::Reply(h, found)
+            Ok(Decision::Reply(h, found))
         }
-        Route::To(z) => Decision::Send(h, question(m.to, z, m.a, m.b, hops), Answer::Quiet),
+        Route::To(z) => Ok(Decision::Send(h, question(m.to, z, m.a, m.b, hops), Answer::Quiet)),
     }
 }
 
 // 1 LOOKUP: 'state 2 to 4.'
-pub fn lookup(p: u32, h: Row, m: Message) -> Decision
+pub fn lookup(p: u32, h: Row, m: Message) -> Result<Decision, Refusal>
     ensures { result ≡ lookup_spec p h m }
 {
     let s = h.state;
     match s {
         states::INSIDE..=states::LEAVING => lookup_routed(h, m, route(p, h, m.from, m.a)),
-        _ => Decision::Refuse(refusals::NOT_EXPECTED),
+        _ => Err(Refusal::NotExpected),
     }
 }

@@ -10,7 +10,9 @@ use Rattle.lists.specs.Tests.{and_left, and_right, true_T}
 use Rattle.protocol.specs.declared.Answer.TheVariants.{Quiet}
 use Rattle.protocol.specs.declared.Route.TheVariants.{To}
 use Rattle.protocol.specs.declared.Decision.TheVariants.{Send}
-use Rattle.protocol.specs.Names.{JOIN, LEAVEREQ, LAST_HUB, LOCKED, MESSAGES_FULL, NO_HUB, NO_MESSAGE, NOT_IN_RING, NOT_OUTSIDE, OUTSIDE, TICKETS_USED_UP}
+use Rattle.std.specs.Prelude.{Ok}
+use Rattle.protocol.specs.Names.{JOIN, LEAVEREQ, OUTSIDE}
+use Rattle.protocol.specs.declared.refusal.Refusal.TheVariants.{LastHub, Locked, MessagesFull, NoHub, NoMessage, NotInRing, NotOutside, TicketsUsedUp}
 use Rattle.protocol.specs.Record.{most_messages, State, count, count_in, messages_in, asked_in, row, identifier, read, sent, ticketed}
 use Rattle.protocol.specs.Routing.{in_ring, onward}
 use Rattle.protocol.specs.Kinds.{question, note, with_state, with_lock}
@@ -62,15 +64,15 @@ module _ (w : List ℕ) where
 
   -- ask
   module _ (x v : ℕ) where
-    pub ask_4 : n ≤ x → ask s x v ≡ refused NO_HUB
+    pub ask_4 : n ≤ x → ask s x v ≡ refused NoHub
     unfolding ask
     ask_4 l = on_no _ _ _ (node_no x l)
 
-    pub ask_5 : x < n → in_ring (row s x) ≡ false → ask s x v ≡ refused NOT_IN_RING
+    pub ask_5 : x < n → in_ring (row s x) ≡ false → ask s x v ≡ refused NotInRing
     unfolding ask
     ask_5 l r = on_yes _ _ _ (node_yes x l) ∙ on_no _ _ _ r
 
-    pub ask_12 : x < n → in_ring (row s x) ≡ true → 4294967295 ≤ asked_in w → ask s x v ≡ refused TICKETS_USED_UP
+    pub ask_12 : x < n → in_ring (row s x) ≡ true → 4294967295 ≤ asked_in w → ask s x v ≡ refused TicketsUsedUp
     unfolding ask
     ask_12 l r a = on_yes _ _ _ (node_yes x l) ∙ on_yes _ _ _ r ∙ on_no _ _ _ (asked_no a)
 
@@ -78,7 +80,7 @@ module _ (w : List ℕ) where
     unfolding ask
     ask_routed l r a = on_yes _ _ _ (node_yes x l) ∙ on_yes _ _ _ r ∙ on_yes _ _ _ (asked_yes a)
 
-    pub asking_11 : (z : ℕ) → most_messages ≤ m → asking s x v (To z) ≡ refused MESSAGES_FULL
+    pub asking_11 : (z : ℕ) → most_messages ≤ m → asking s x v (To z) ≡ refused MessagesFull
     unfolding asking
     asking_11 z l = on_no _ _ _ (room_no l)
 
@@ -88,63 +90,63 @@ module _ (w : List ℕ) where
 
   -- join
   module _ (x y : ℕ) where
-    pub join_4 : (nat_lt x n && nat_lt y n) ≡ false → join s x y ≡ refused NO_HUB
+    pub join_4 : (nat_lt x n && nat_lt y n) ≡ false → join s x y ≡ refused NoHub
     unfolding join
     join_4 t = on_no _ _ _ (nodes_are x y false t)
 
-    pub join_6 : (nat_lt x n && nat_lt y n) ≡ true → ((row s x).state ≡ OUTSIDE → ⊥) → join s x y ≡ refused NOT_OUTSIDE
+    pub join_6 : (nat_lt x n && nat_lt y n) ≡ true → ((row s x).state ≡ OUTSIDE → ⊥) → join s x y ≡ refused NotOutside
     unfolding join
     join_6 t e = on_yes _ _ _ (nodes_are x y true t) ∙ on_no _ _ _ (ne_eqb _ 0 e)
 
-    pub join_5 : (nat_lt x n && nat_lt y n) ≡ true → (row s x).state ≡ OUTSIDE → in_ring (row s y) ≡ false → join s x y ≡ refused NOT_IN_RING
+    pub join_5 : (nat_lt x n && nat_lt y n) ≡ true → (row s x).state ≡ OUTSIDE → in_ring (row s y) ≡ false → join s x y ≡ refused NotInRing
     unfolding join
     join_5 t e r = on_yes _ _ _ (nodes_are x y true t) ∙ on_yes _ _ _ (eq-eqb _ 0 e) ∙ on_no _ _ _ r
 
-    pub join_11 : (nat_lt x n && nat_lt y n) ≡ true → (row s x).state ≡ OUTSIDE → in_ring (row s y) ≡ true → most_messages ≤ m → join s x y ≡ refused MESSAGES_FULL
+    pub join_11 : (nat_lt x n && nat_lt y n) ≡ true → (row s x).state ≡ OUTSIDE → in_ring (row s y) ≡ true → most_messages ≤ m → join s x y ≡ refused MessagesFull
     unfolding join
     join_11 t e r l = on_yes _ _ _ (nodes_are x y true t) ∙ on_yes _ _ _ (eq-eqb _ 0 e) ∙ on_yes _ _ _ r ∙ on_no _ _ _ (room_no l)
 
     pub join_sent : (nat_lt x n && nat_lt y n) ≡ true → (row s x).state ≡ OUTSIDE → in_ring (row s y) ≡ true → m < most_messages
-        → join s x y ≡ conclude s x (Send (with_lock (with_state (row s x) 1) 1) (note JOIN x y x) Quiet)
+        → join s x y ≡ conclude s x (Ok (Send (with_lock (with_state (row s x) 1) 1) (note JOIN x y x) Quiet))
     unfolding join
     join_sent t e r l = on_yes _ _ _ (nodes_are x y true t) ∙ on_yes _ _ _ (eq-eqb _ 0 e) ∙ on_yes _ _ _ r ∙ on_yes _ _ _ (room_yes l)
 
   -- leave
   module _ (x : ℕ) where
-    pub leave_4 : n ≤ x → leave s x ≡ refused NO_HUB
+    pub leave_4 : n ≤ x → leave s x ≡ refused NoHub
     unfolding leave
     leave_4 l = on_no _ _ _ (node_no x l)
 
-    pub leave_5 : x < n → in_ring (row s x) ≡ false → leave s x ≡ refused NOT_IN_RING
+    pub leave_5 : x < n → in_ring (row s x) ≡ false → leave s x ≡ refused NotInRing
     unfolding leave
     leave_5 l r = on_yes _ _ _ (node_yes x l) ∙ on_no _ _ _ r
 
-    pub leave_7 : x < n → in_ring (row s x) ≡ true → ((row s x).lock ≡ 0 → ⊥) → leave s x ≡ refused LOCKED
+    pub leave_7 : x < n → in_ring (row s x) ≡ true → ((row s x).lock ≡ 0 → ⊥) → leave s x ≡ refused Locked
     unfolding leave
     leave_7 l r k = on_yes _ _ _ (node_yes x l) ∙ on_yes _ _ _ r ∙ on_no _ _ _ (ne_eqb _ 0 k)
 
-    pub leave_8 : x < n → in_ring (row s x) ≡ true → (row s x).lock ≡ 0 → (row s x).succ ≡ x → leave s x ≡ refused LAST_HUB
+    pub leave_8 : x < n → in_ring (row s x) ≡ true → (row s x).lock ≡ 0 → (row s x).succ ≡ x → leave s x ≡ refused LastHub
     unfolding leave
     leave_8 l r k e = on_yes _ _ _ (node_yes x l) ∙ on_yes _ _ _ r ∙ on_yes _ _ _ (eq-eqb _ 0 k) ∙ on_no _ _ _ (ap not (eq-eqb _ x e))
 
-    pub leave_11 : x < n → in_ring (row s x) ≡ true → (row s x).lock ≡ 0 → ((row s x).succ ≡ x → ⊥) → most_messages ≤ m → leave s x ≡ refused MESSAGES_FULL
+    pub leave_11 : x < n → in_ring (row s x) ≡ true → (row s x).lock ≡ 0 → ((row s x).succ ≡ x → ⊥) → most_messages ≤ m → leave s x ≡ refused MessagesFull
     unfolding leave
     leave_11 l r k e f =
         on_yes _ _ _ (node_yes x l) ∙ on_yes _ _ _ r ∙ on_yes _ _ _ (eq-eqb _ 0 k) ∙ on_yes _ _ _ (ap not (ne_eqb _ x e)) ∙ on_no _ _ _ (room_no f)
 
     pub leave_sent : x < n → in_ring (row s x) ≡ true → (row s x).lock ≡ 0 → ((row s x).succ ≡ x → ⊥) → m < most_messages
-        → leave s x ≡ conclude s x (Send (with_lock (with_state (row s x) 3) 1) (note LEAVEREQ x (row s x).succ 0) Quiet)
+        → leave s x ≡ conclude s x (Ok (Send (with_lock (with_state (row s x) 3) 1) (note LEAVEREQ x (row s x).succ 0) Quiet))
     unfolding leave
     leave_sent l r k e f =
         on_yes _ _ _ (node_yes x l) ∙ on_yes _ _ _ r ∙ on_yes _ _ _ (eq-eqb _ 0 k) ∙ on_yes _ _ _ (ap not (ne_eqb _ x e)) ∙ on_yes _ _ _ (room_yes f)
 
   -- deliver
   module _ (x y : ℕ) where
-    pub deliver_4 : (nat_lt x n && nat_lt y n) ≡ false → deliver s x y ≡ refused NO_HUB
+    pub deliver_4 : (nat_lt x n && nat_lt y n) ≡ false → deliver s x y ≡ refused NoHub
     unfolding deliver
     deliver_4 t = on_no _ _ _ (nodes_are x y false t)
 
-    pub deliver_9 : (nat_lt x n && nat_lt y n) ≡ true → m ≤ oldest s x y → deliver s x y ≡ refused NO_MESSAGE
+    pub deliver_9 : (nat_lt x n && nat_lt y n) ≡ true → m ≤ oldest s x y → deliver s x y ≡ refused NoMessage
     unfolding deliver
     deliver_9 t l = on_yes _ _ _ (nodes_are x y true t) ∙ on_no _ _ _ (ap (nat_lt (oldest s x y)) (messages_of_read w) ∙ le-ltb (oldest s x y) m l)
 

@@ -6,11 +6,11 @@ ghost use Rattle.protocol.specs.Calls.{written};
 ghost use Rattle.layout.specs.Form.{Valid};
 
 use protocol::form::MOST_MESSAGES;
-use protocol::{Answer, Outcome, Route, refusals};
+use protocol::{Answer, Refusal, Route};
 use routing::{in_ring, onward, question};
 
 // The question is answered at once, or sent on if there is room for it.
-fn asking(w: &mut [u32], x: u32, v: u32, way: Route) -> Outcome
+fn asking(w: &mut [u32], x: u32, v: u32, way: Route) -> Result<Answer, Refusal>
     requires { (Valid w.old) × (asked_in w.old < 4294967295) }
     ensures { written w.old (asking_spec (read w.old) x v way) ≡ record { outcome = result; slice = w.new } }
 {
@@ -18,7 +18,7 @@ fn asking(w: &mut [u32], x: u32, v: u32, way: Route) -> Outcome
     match way {
         Route::Own => {
             w[3] = ticket + 1;
-            Outcome::Answered(Answer::Found {
+            Ok(Answer::Found {
                 hub: x,
                 number: v,
                 ticket,
@@ -30,28 +30,28 @@ fn asking(w: &mut [u32], x: u32, v: u32, way: Route) -> Outcome
             if m < MOST_MESSAGES {
                 record::push(w, m, question(x, z, v, ticket, 0));
                 w[3] = ticket + 1;
-                return Outcome::Answered(Answer::Quiet);
+                return Ok(Answer::Quiet);
             }
-            Outcome::Refused(refusals::MESSAGES_FULL)
+            Err(Refusal::MessagesFull)
         }
     }
 }
 
 // On a record that has passed questions 1 and 2.
-pub fn ask(w: &mut [u32], x: u32, v: u32) -> Outcome
+pub fn ask(w: &mut [u32], x: u32, v: u32) -> Result<Answer, Refusal>
     requires { Valid w.old }
     ensures { written w.old (ask_spec (read w.old) x v) ≡ record { outcome = result; slice = w.new } }
 {
     if w[1] <= x {
-        return Outcome::Refused(refusals::NO_HUB);
+        return Err(Refusal::NoHub);
     }
     let h = record::row_of(w, x);
     if !in_ring(h) {
-        return Outcome::Refused(refusals::NOT_IN_RING);
+        return Err(Refusal::NotInRing);
     }
     if w[3] < 4294967295 {
         let p = record::identifier_of(w, h.pred);
         return asking(w, x, v, onward(p, h, v));
     }
-    Outcome::Refused(refusals::TICKETS_USED_UP)
+    Err(Refusal::TicketsUsedUp)
 }

@@ -8,25 +8,25 @@ ghost use Rattle.layout.specs.Form.{Valid};
 use crate::apply::{settle, settle_without};
 use lists::both;
 use protocol::form::{MESSAGE_WORDS, MESSAGES_AT, MOST_MESSAGES};
-use protocol::{Answer, Decision, Outcome, kinds, refusals, states};
+use protocol::{Answer, Decision, Refusal, kinds, states};
 use routing::{in_ring, note};
 
 // 'x becomes joining, locked; sends JOIN (a = x) to y.'
-pub(crate) fn join(w: &mut [u32], x: u32, y: u32) -> Outcome
+pub(crate) fn join(w: &mut [u32], x: u32, y: u32) -> Result<Answer, Refusal>
     requires { Valid w.old }
     ensures { written w.old (join_spec (read w.old) x y) ≡ record { outcome = result; slice = w.new } }
 {
     let n = w[1];
     let m = w[2];
     if !both(x < n, y < n) {
-        return Outcome::Refused(refusals::NO_HUB);
+        return Err(Refusal::NoHub);
     }
     let mut h = record::row_of(w, x);
     if h.state != states::OUTSIDE {
-        return Outcome::Refused(refusals::NOT_OUTSIDE);
+        return Err(Refusal::NotOutside);
     }
     if !in_ring(record::row_of(w, y)) {
-        return Outcome::Refused(refusals::NOT_IN_RING);
+        return Err(Refusal::NotInRing);
     }
     if m < MOST_MESSAGES {
         h.state = states::JOINING;
@@ -35,30 +35,30 @@ pub(crate) fn join(w: &mut [u32], x: u32, y: u32) -> Outcome
             w,
             m,
             x,
-            Decision::Send(h, note(kinds::JOIN, x, y, x), Answer::Quiet),
+            Ok(Decision::Send(h, note(kinds::JOIN, x, y, x), Answer::Quiet)),
         );
     }
-    Outcome::Refused(refusals::MESSAGES_FULL)
+    Err(Refusal::MessagesFull)
 }
 
 // 'x gets state 3, locked; sends LEAVEREQ to its succ.'
-pub(crate) fn leave(w: &mut [u32], x: u32) -> Outcome
+pub(crate) fn leave(w: &mut [u32], x: u32) -> Result<Answer, Refusal>
     requires { Valid w.old }
     ensures { written w.old (leave_spec (read w.old) x) ≡ record { outcome = result; slice = w.new } }
 {
     let m = w[2];
     if w[1] <= x {
-        return Outcome::Refused(refusals::NO_HUB);
+        return Err(Refusal::NoHub);
     }
     let mut h = record::row_of(w, x);
     if !in_ring(h) {
-        return Outcome::Refused(refusals::NOT_IN_RING);
+        return Err(Refusal::NotInRing);
     }
     if h.lock != 0 {
-        return Outcome::Refused(refusals::LOCKED);
+        return Err(Refusal::Locked);
     }
     if h.succ == x {
-        return Outcome::Refused(refusals::LAST_HUB);
+        return Err(Refusal::LastHub);
     }
     if m < MOST_MESSAGES {
         h.state = states::WANTING_TO_LEAVE;
@@ -67,21 +67,21 @@ pub(crate) fn leave(w: &mut [u32], x: u32) -> Outcome
             w,
             m,
             x,
-            Decision::Send(h, note(kinds::LEAVEREQ, x, h.succ, 0), Answer::Quiet),
+            Ok(Decision::Send(h, note(kinds::LEAVEREQ, x, h.succ, 0), Answer::Quiet)),
         );
     }
-    Outcome::Refused(refusals::MESSAGES_FULL)
+    Err(Refusal::MessagesFull)
 }
 
 // 'the oldest message with that from and to', at its receiver.
-pub(crate) fn deliver(w: &mut [u32], x: u32, y: u32) -> Outcome
+pub(crate) fn deliver(w: &mut [u32], x: u32, y: u32) -> Result<Answer, Refusal>
     requires { Valid w.old }
     ensures { written w.old (deliver_spec (read w.old) x y) ≡ record { outcome = result; slice = w.new } }
 {
     let n = w[1];
     let m = w[2];
     if !both(x < n, y < n) {
-        return Outcome::Refused(refusals::NO_HUB);
+        return Err(Refusal::NoHub);
     }
     let j = record::find(w, x, y);
     if j < m {
@@ -91,5 +91,5 @@ pub(crate) fn deliver(w: &mut [u32], x: u32, y: u32) -> Outcome
         let g = record::row_of(w, u.a);
         return settle_without(w, m, j, y, handlers::handle(p, h, g, u));
     }
-    Outcome::Refused(refusals::NO_MESSAGE)
+    Err(Refusal::NoMessage)
 }

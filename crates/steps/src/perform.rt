@@ -7,10 +7,10 @@ ghost use Rattle.layout.specs.Form.{Valid};
 use crate::asks::ask;
 use crate::commands::{deliver, join, leave};
 use protocol::form::RECORD_WORDS;
-use protocol::{Outcome, refusals};
+use protocol::{Answer, Refusal};
 
 // 'operation 0 to 3? 3.' On a record that has passed questions 1 and 2.
-pub fn run(w: &mut [u32], operation: u32, x: u32, y: u32) -> Outcome
+pub fn run(w: &mut [u32], operation: u32, x: u32, y: u32) -> Result<Answer, Refusal>
     requires { Valid w.old }
     ensures { written w.old (step_spec (read w.old) operation x y) ≡ record { outcome = result; slice = w.new } }
 {
@@ -19,20 +19,20 @@ pub fn run(w: &mut [u32], operation: u32, x: u32, y: u32) -> Outcome
         1 => join(w, x, y),
         2 => leave(w, x),
         3 => deliver(w, x, y),
-        _ => Outcome::Refused(refusals::NO_OPERATION),
+        _ => Err(Refusal::NoOperation),
     }
 }
 
 // One command on the record: 'operation, x, y'. Every slice and every three numbers are taken; what is wrong is refused by its number, and
 // a refusal changes no word.
-pub fn step(w: &mut [u32], operation: u32, x: u32, y: u32) -> Outcome
+pub fn step(w: &mut [u32], operation: u32, x: u32, y: u32) -> Result<Answer, Refusal>
     ensures { step_call w.old operation x y ≡ record { outcome = result; slice = w.new } }
 {
     if w.len() < RECORD_WORDS {
-        return Outcome::Refused(refusals::RECORD_SHORT);
+        return Err(Refusal::RecordShort);
     }
     if !wellformed::well_formed(w) {
-        return Outcome::Refused(refusals::NOT_WELL_FORMED);
+        return Err(Refusal::NotWellFormed);
     }
     run(w, operation, x, y)
 }

@@ -2,7 +2,7 @@ ghost use Rattle.std.specs.Prelude.{◌≡◌, nat_eq};
 ghost use Rattle.lists.specs.Basics.{when◌then◌else◌};
 ghost use Rattle.protocol.specs.Answers.{kind_of, raised, count_of, raised_at, counted as counted_spec};
 
-use protocol::{Answer, Outcome, Tally, answer_kinds};
+use protocol::{Answer, Refusal, Tally, answer_kinds};
 
 // 'adds 1 to one of them; a count at 18446744073709551615 stays.'
 fn raise(n: u64) -> u64
@@ -36,12 +36,12 @@ fn kind_of(a: Answer) -> u32
 }
 
 // A refusal is counted too, in the last place, whatever its number.
-fn count_of(o: Outcome) -> u32
+fn count_of(o: Result<Answer, Refusal>) -> u32
     ensures { result ≡ count_of o }
 {
     match o {
-        Outcome::Refused(_) => answer_kinds::REFUSAL,
-        Outcome::Answered(a) => kind_of(a),
+        Err(_) => answer_kinds::REFUSAL,
+        Ok(a) => kind_of(a),
     }
 }
 
@@ -73,7 +73,7 @@ pub fn raised_at(k: u32, t: Tally) -> Tally
 }
 
 // The tally after a step with this outcome.
-pub fn counted(t: Tally, o: Outcome) -> Tally
+pub fn counted(t: Tally, o: Result<Answer, Refusal>) -> Tally
     ensures { result ≡ counted_spec t o }
 {
     raised_at(count_of(o), t)

@@ -3,12 +3,12 @@ ghost use Rattle.protocol.specs.Answers.{counted as counted_spec};
 ghost use Rattle.protocol.specs.Calls.{step_call};
 
 use crate::perform::step;
-use protocol::{Outcome, Tally};
+use protocol::{Answer, Refusal, Tally};
 
 // A step's outcome, and the tally after it.
 #[derive(Clone, Copy)]
 pub struct Tallied {
-    pub outcome: Outcome,
+    pub outcome: Result<Answer, Refusal>,
     pub tally: Tally,
 }
 

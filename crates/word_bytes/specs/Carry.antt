@@ -6,8 +6,8 @@ use Rattle.lists.specs.Basics.{All, table}
 use Rattle.lists.specs.Blocks.{flat_append, length_flat, length_table}
 use Rattle.lists.specs.Splice.{splice, splice_at}
 use Rattle.protocol.specs.Bytes.{Byte, word_of, word_bytes, words_of, bytes_of, over, bytes_after, carried}
-use Rattle.protocol.specs.declared.Outcome.{Outcome}
-use Rattle.protocol.specs.declared.Outcome.TheVariants.{Refused, Answered}
+use Rattle.protocol.specs.Outcomes.{Outcome}
+use Rattle.std.specs.Prelude.{Err, Ok}
 use Rattle.protocol.specs.Answers.{refusal, outcome_words}
 use Rattle.layout.specs.Bytes.{word_size, back}
 use Rattle.word_bytes.specs.First.{with}
@@ -74,8 +74,8 @@ over_step b w i h =
 module _ (b s : List ℕ) (n : ℕ) (h : All Byte b) (e : length s ≡ n) where
   after : (o : Outcome) → bytes_after b (s ++ words_of (drop (4 * n) b)) o ≡ bytes_after b s o
   unfolding bytes_after
-  after (Refused k) = refl
-  after (Answered a) = back b s n h e
+  after (Err k) = refl
+  after (Ok a) = back b s n h e
 
   pub carried_first : (out : List ℕ) (o : Outcome)
       → carried b out (with (words_of (drop (4 * n) b)) (record { outcome = o; slice = s })) ≡ carried b out (record { outcome = o; slice = s })

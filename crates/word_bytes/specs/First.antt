@@ -7,15 +7,14 @@ use Rattle.std.proofs.lemmas.List.{drop-append-le}
 use Rattle.lists.specs.Basics.{when◌then◌else◌, require, distinct}
 use Rattle.lists.specs.Choice.{on_yes}
 use Rattle.lists.specs.Tests.{says_same, T_true, true_T}
-use Rattle.protocol.specs.Names.{NO_HOLDER}
+use Rattle.protocol.specs.declared.refusal.Refusal.TheVariants.{NoHolder}
 use Rattle.protocol.specs.Record.{most_nodes, record_size, count_in, read, words}
 use Rattle.protocol.specs.WellFormed.{well_formed}
 use Rattle.protocol.specs.Step.{Result, refused, accepted, step}
 use Rattle.protocol.specs.Calls.{Called, turned_down, written, on_record, step_call, owner_call, fresh_by_call, lowest_holder}
 use Rattle.protocol.specs.Fresh.{fresh}
 use Rattle.protocol.specs.declared.Answer.TheVariants.{Quiet}
-use Rattle.protocol.specs.declared.Outcome.TheVariants.{Answered}
-use Rattle.protocol.specs.declared.Ownership.TheVariants.{Refused as OwnerRefused, HeldBy}
+use Rattle.std.specs.Prelude.{Err, Ok}
 use Rattle.layout.specs.Words.{length_words, read_words}
 use Rattle.layout.specs.Form.{valid, valid_words, valid_form, well_formed_words}
 use Rattle.layout.specs.Questions.{long_yes, record_2, record_rest}
@@ -62,8 +61,8 @@ module _ (a t : List ℕ) (e : length a ≡ record_size) where
   unfolding written
   same_written (refused k) = refl
   same_written (accepted x s) =
-      ap (λ l. record { outcome = Answered x; slice = words s ++ l }) (drop-append-le record_size a t (omega arith))
-      ∙ ap (λ l. record { outcome = Answered x; slice = l }) (sym (append_assoc (words s) (drop record_size a) t))
+      ap (λ l. record { outcome = Ok x; slice = words s ++ l }) (drop-append-le record_size a t (omega arith))
+      ∙ ap (λ l. record { outcome = Ok x; slice = l }) (sym (append_assoc (words s) (drop record_size a) t))
 
   -- questions 1 and 2
   module _ {A : Type 0} (no-long no_short : ℕ → A) (rest-long rest-short : A) (f : A → A) where
@@ -89,9 +88,9 @@ module _ (a t : List ℕ) (e : length a ≡ record_size) where
   pub same_owner : (v : ℕ) → owner_call (a ++ t) v ≡ owner_call a v
   unfolding owner_call
   same_owner v =
-      same_questions OwnerRefused OwnerRefused
-      (require (nat_lt (lowest_holder (read (a ++ t)) v) (count_in (a ++ t))) (OwnerRefused NO_HOLDER) (HeldBy (lowest_holder (read (a ++ t)) v)))
-      (require (nat_lt (lowest_holder (read a) v) (count_in a)) (OwnerRefused NO_HOLDER) (HeldBy (lowest_holder (read a) v)))
+      same_questions Err Err
+      (require (nat_lt (lowest_holder (read (a ++ t)) v) (count_in (a ++ t))) (Err NoHolder) (Ok (lowest_holder (read (a ++ t)) v)))
+      (require (nat_lt (lowest_holder (read a) v) (count_in a)) (Err NoHolder) (Ok (lowest_holder (read a) v)))
       (λ o. o)
       (λ k. refl)
       (λ ok. rw (same_read ok, get_or-append a t 0 1 (omega arith)))

@@ -3,7 +3,7 @@ use crate::names::{answer_kind, kind, pointer, refused, state};
 use crate::text::{field, number, put, say};
 use answers::answer_words;
 use protocol::form::ROW_WORDS;
-use protocol::{Message, Outcome, Ownership, Roll, Row, Tally, answer_kinds, kinds};
+use protocol::{Answer, Message, Refusal, Row, Tally, answer_kinds, kinds};
 
 // A roll's output is full of this number before the call, which is no hub: where it still stands nothing was written.
 pub const UNWRITTEN: u32 = 4294967295;
@@ -28,10 +28,10 @@ fn answer(out: &mut [u8], at: usize, words: [u32; 5]) -> usize {
     hub
 }
 
-pub fn outcome(out: &mut [u8], at: usize, o: Outcome) -> usize {
+pub fn outcome(out: &mut [u8], at: usize, o: Result<Answer, Refusal>) -> usize {
     match o {
-        Outcome::Refused(k) => refused(out, at, k),
-        Outcome::Answered(a) => answer(out, at, answer_words(a)),
+        Err(k) => refused(out, at, k),
+        Ok(a) => answer(out, at, answer_words(a)),
     }
 }
 
@@ -100,14 +100,14 @@ fn places(out: &mut [u8], at: usize, hubs: &[u32]) -> usize {
     end
 }
 
-fn length(out: &mut [u8], at: usize, r: Roll) -> usize {
+fn length(out: &mut [u8], at: usize, r: Result<u32, Refusal>) -> usize {
     match r {
-        Roll::Refused(k) => refused(out, at, k),
-        Roll::Length(n) => field(out, at, b"length ", n as u64),
+        Err(k) => refused(out, at, k),
+        Ok(n) => field(out, at, b"length ", n as u64),
     }
 }
 
-pub fn roll(out: &mut [u8], at: usize, hub: u32, r: Roll, hubs: &[u32]) -> usize {
+pub fn roll(out: &mut [u8], at: usize, hub: u32, r: Result<u32, Refusal>, hubs: &[u32]) -> usize {
     let begun = field(out, at, b"roll from ", hub as u64);
     let comma = say(out, begun, b", ");
     let said = length(out, comma, r);
@@ -115,12 +115,12 @@ pub fn roll(out: &mut [u8], at: usize, hub: u32, r: Roll, hubs: &[u32]) -> usize
     places(out, colon, hubs)
 }
 
-pub fn owner(out: &mut [u8], at: usize, key: u32, o: Ownership) -> usize {
+pub fn owner(out: &mut [u8], at: usize, key: u32, o: Result<u32, Refusal>) -> usize {
     let begun = field(out, at, b"owner of ", key as u64);
     let colon = say(out, begun, b": ");
     match o {
-        Ownership::Refused(k) => refused(out, colon, k),
-        Ownership::HeldBy(hub) => field(out, colon, b"hub ", hub as u64),
+        Err(k) => refused(out, colon, k),
+        Ok(hub) => field(out, colon, b"hub ", hub as u64),
     }
 }
 

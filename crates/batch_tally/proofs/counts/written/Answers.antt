@@ -3,10 +3,10 @@ use Rattle.batch_tally.specs.Places.{written_places}
 use borrow.Author.Rules.{rules}
 use Rattle.batch_tally.proofs.counts.written.Goals as goal
 
-pub returns-in-Refused : goal.returns-in-Refused
+pub returns-in-Err : goal.returns-in-Err
 unfolding written_places
-returns-in-Refused c = search rules
+returns-in-Err c = search rules
 
-pub returns-in-Answered : goal.returns-in-Answered
+pub returns-in-Ok : goal.returns-in-Ok
 unfolding written_places
-returns-in-Answered c = search rules
+returns-in-Ok c = search rules

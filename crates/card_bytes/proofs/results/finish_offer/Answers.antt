@@ -4,10 +4,10 @@ use Rattle.protocol.specs.Bytes.{bytes_after}
 use Rattle.protocol.specs.CardBytes.{taken}
 use Rattle.card_bytes.proofs.results.finish_offer.Goals as goal
 
-pub returns-in-Refused : goal.returns-in-Refused
+pub returns-in-Err : goal.returns-in-Err
 unfolding taken refusal bytes_after
-returns-in-Refused c = λ w. simp c.in-Refused.is
+returns-in-Err c = λ w. simp c.in-Err.is
 
-pub returns-in-Answered : goal.returns-in-Answered
+pub returns-in-Ok : goal.returns-in-Ok
 unfolding taken refusal bytes_after
-returns-in-Answered c = λ w. simp (c.in-Answered.is, c.save.ensures)
+returns-in-Ok c = λ w. simp (c.in-Ok.is, c.save.ensures)

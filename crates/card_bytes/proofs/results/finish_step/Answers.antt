@@ -4,10 +4,10 @@ use Rattle.protocol.specs.Bytes.{over, bytes_after}
 use Rattle.protocol.specs.CardBytes.{carried_cards}
 use Rattle.card_bytes.proofs.results.finish_step.Goals as goal
 
-pub returns-in-Refused : goal.returns-in-Refused
+pub returns-in-Err : goal.returns-in-Err
 unfolding carried_cards refusal outcome_words bytes_after over
-returns-in-Refused c = simp c.in-Refused.is
+returns-in-Err c = simp c.in-Err.is
 
-pub returns-in-Answered : goal.returns-in-Answered
+pub returns-in-Ok : goal.returns-in-Ok
 unfolding carried_cards refusal outcome_words bytes_after
-returns-in-Answered c = simp (c.in-Answered.is, c.save-in-Answered-2.ensures, c.answer_words-answer.ensures, c.save-in-Answered.ensures, c.save.ensures)
+returns-in-Ok c = simp (c.in-Ok.is, c.save-in-Ok-2.ensures, c.answer_words-answer.ensures, c.save-in-Ok.ensures, c.save.ensures)

@@ -14,16 +14,16 @@ returns-then-k-lt-BOOK_WORDS c = let a = c.args in new_cards_1 a.w.now a.k.now a
 pub write_new-requires : goal.write_new-requires
 write_new-requires c = let a = c.args in
     let f = c.found-r in
-    let l = fresh_below a.w.now a.identifiers.now (founder_of a.founder a.identifiers.now) f.result _ c.in-Answered.a f.ensures c.in-Answered.is in
+    let l = fresh_below a.w.now a.identifiers.now (founder_of a.founder a.identifiers.now) f.result _ c.in-Ok.a f.ensures c.in-Ok.is in
     (omega (arith, l, c.founding_node.ensures), search rules)
 
-pub returns-in-Refused : goal.returns-in-Refused
-returns-in-Refused c = let a = c.args in
+pub returns-in-Err : goal.returns-in-Err
+returns-in-Err c = let a = c.args in
     let f = c.found-r in
-    new_refused a.w.now a.k.now a.identifiers.now (founder_of a.founder a.identifiers.now) c.if-w-lt-RECORD_WORDS.false c.if-k-lt-BOOK_WORDS.false f.result _ f.ensures c.in-Refused.number c.in-Refused.is
+    new_refused a.w.now a.k.now a.identifiers.now (founder_of a.founder a.identifiers.now) c.if-w-lt-RECORD_WORDS.false c.if-k-lt-BOOK_WORDS.false f.result _ f.ensures c.in-Err.number c.in-Err.is
 
-pub returns-in-Answered : goal.returns-in-Answered
-returns-in-Answered c = let a = c.args in
+pub returns-in-Ok : goal.returns-in-Ok
+returns-in-Ok c = let a = c.args in
     let f = c.found-r in
     let n = c.founding_node in
-    new_made a.w.now a.k.now a.identifiers.now (founder_of a.founder a.identifiers.now) c.if-w-lt-RECORD_WORDS.false c.if-k-lt-BOOK_WORDS.false f.result _ f.ensures c.in-Answered.a c.in-Answered.is n.result n.ensures _ c.write_new.ensures
+    new_made a.w.now a.k.now a.identifiers.now (founder_of a.founder a.identifiers.now) c.if-w-lt-RECORD_WORDS.false c.if-k-lt-BOOK_WORDS.false f.result _ f.ensures c.in-Ok.a c.in-Ok.is n.result n.ensures _ c.write_new.ensures

@@ -6,7 +6,7 @@ use lib.ListN.{set, drop}
 use borrow.Author.Tests.{eq-eqb, ne_eqb}
 use Rattle.lists.specs.Choice.{on_yes, on_no}
 use Rattle.protocol.specs.declared.Answer.TheVariants.{Gone}
-use Rattle.protocol.specs.declared.Outcome.TheVariants.{Refused, Answered}
+use Rattle.std.specs.Prelude.{Err, Ok}
 use Rattle.protocol.specs.Record.{read}
 use Rattle.protocol.specs.WellFormed.{identifiers}
 use Rattle.protocol.specs.Cards.{marks_in, following}
@@ -20,7 +20,7 @@ returns-then-others-eq0 c = let a = c.args in
     let k = a.k.now in
     let o = c.others in
     λ w₀ e r l. on_no _ _ _ (any_law (set (marks_in k) a.h 0) o.result (off_bits (identifiers (read w₀)) a.names.now k r a.h l) (others_law (marks_in k) a.h o.result o.ensures) ∙ ap not (eq-eqb _ _ c.if-others-eq0.true))
-    ∙ ap (λ z. record { outcome = Refused 2; slice = z; cards = k }) (e ∙ ap (λ z. a.saved.now ++ drop z a.w.now) (sym c.requires.2) ∙ sym c.restore.ensures)
+    ∙ ap (λ z. record { outcome = Err 2; slice = z; cards = k }) (e ∙ ap (λ z. a.saved.now ++ drop z a.w.now) (sym c.requires.2) ∙ sym c.restore.ensures)
 
 pub returns : goal.returns
 unfolding following
@@ -32,4 +32,4 @@ returns c = let a = c.args in
     λ w₀ e r l. (let b = off_bits (identifiers (read w₀)) a.names.now k r a.h l in
     let m = some_marked (set (marks_in k) a.h 0) b (sym q ∙ z) in
     on_yes _ _ _ (any_law (set (marks_in k) a.h 0) o.result b q ∙ ap not z)
-    ∙ ap (λ y. record { outcome = Answered (Gone a.h); slice = a.w.now; cards = y }) (sym (c.leave.ensures (identifiers (read w₀)) r l m.0 m.1)))
+    ∙ ap (λ y. record { outcome = Ok (Gone a.h); slice = a.w.now; cards = y }) (sym (c.leave.ensures (identifiers (read w₀)) r l m.0 m.1)))

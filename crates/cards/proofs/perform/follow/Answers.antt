@@ -1,7 +1,7 @@
 -- `follow`: arm by arm, what the answer does. Assumes nothing.
 use mathlib.Core.Path.{sym, ◌∙◌, ap, subst}
 use Rattle.protocol.specs.declared.Answer.TheVariants.{Entered}
-use Rattle.protocol.specs.declared.Outcome.TheVariants.{Answered}
+use Rattle.std.specs.Prelude.{Ok}
 use Rattle.protocol.specs.Record.{most_nodes, read}
 use Rattle.protocol.specs.WellFormed.{identifiers}
 use lib.ListN.{length}
@@ -28,7 +28,7 @@ unfolding following
 returns-in-Entered c = let a = c.args in
     let q = c.in-Entered.is in
     λ w₀ e r b. ap (following w₀ a.k.now a.w.now) q
-    ∙ ap (λ z. record { outcome = Answered (Entered c.in-Entered.h); slice = a.w.now; cards = z }) (sym (c.enter.ensures (identifiers (read w₀)) r (subst (Bound (length (identifiers (read w₀)))) q b)))
+    ∙ ap (λ z. record { outcome = Ok (Entered c.in-Entered.h); slice = a.w.now; cards = z }) (sym (c.enter.ensures (identifiers (read w₀)) r (subst (Bound (length (identifiers (read w₀)))) q b)))
 
 pub returns-in-Gone : goal.returns-in-Gone
 returns-in-Gone c = let a = c.args in

@@ -4,7 +4,7 @@ use native.Mathlib.Omega.{arith}
 use Rattle.protocol.specs.Record.{most_nodes, read}
 use Rattle.protocol.specs.Step.{step}
 use Rattle.protocol.specs.WellFormed.{identifiers}
-use Rattle.protocol.specs.declared.Outcome.TheVariants.{Refused}
+use Rattle.std.specs.Prelude.{Err}
 use lib.ListN.{length}
 use Rattle.protocol.specs.Cards.{after_call}
 use Rattle.cards.specs.Movers.{bound_more}
@@ -15,24 +15,24 @@ pub follow-requires : goal.follow-requires
 follow-requires c = let a = c.args in
     let w = a.w.now in
     let u = c.run-r in
-    (c.requires.2.neat, c.requires.1, c.save.auto.saved, omega (arith, u.auto.w, c.requires.0.long), bound_more (length (identifiers (read w))) most_nodes c.in-Answered.a c.requires.2.few (answer_bound w _ a.operation a.x a.y u.result c.in-Answered.a c.requires.0 u.ensures c.in-Answered.is))
+    (c.requires.2.neat, c.requires.1, c.save.auto.saved, omega (arith, u.auto.w, c.requires.0.long), bound_more (length (identifiers (read w))) most_nodes c.in-Ok.a c.requires.2.few (answer_bound w _ a.operation a.x a.y u.result c.in-Ok.a c.requires.0 u.ensures c.in-Ok.is))
 
-pub returns-in-Refused : goal.returns-in-Refused
+pub returns-in-Err : goal.returns-in-Err
 unfolding after_call
-returns-in-Refused c = let a = c.args in
+returns-in-Err c = let a = c.args in
     let w = a.w.now in
     let u = c.run-r in
-    let g = c.in-Refused.is in
+    let g = c.in-Err.is in
     after_law w a.k.now _ a.operation a.x a.y u.result _ c.requires.0 u.ensures
-    (ap (after_call w a.k.now _) g ∙ ap (λ z. record { outcome = Refused c.in-Refused.number; slice = z; cards = a.k.now }) (sym (refused_kept w _ u.result c.in-Refused.number (step (read w) a.operation a.x a.y) u.ensures g)))
+    (ap (after_call w a.k.now _) g ∙ ap (λ z. record { outcome = Err c.in-Err.number; slice = z; cards = a.k.now }) (sym (refused_kept w _ u.result c.in-Err.number (step (read w) a.operation a.x a.y) u.ensures g)))
 
-pub returns-in-Answered : goal.returns-in-Answered
+pub returns-in-Ok : goal.returns-in-Ok
 unfolding after_call
-returns-in-Answered c = let a = c.args in
+returns-in-Ok c = let a = c.args in
     let w = a.w.now in
     let u = c.run-r in
-    let g = c.in-Answered.is in
+    let g = c.in-Ok.is in
     after_law w a.k.now _ a.operation a.x a.y u.result _ c.requires.0 u.ensures
     (ap (after_call w a.k.now _) g ∙ c.follow.ensures w
     (came_back w _ _ u.result (step (read w) a.operation a.x a.y) c.requires.0.long u.auto.w u.ensures c.save.ensures)
-    c.requires.2 (answer_bound w _ a.operation a.x a.y u.result c.in-Answered.a c.requires.0 u.ensures g))
+    c.requires.2 (answer_bound w _ a.operation a.x a.y u.result c.in-Ok.a c.requires.0 u.ensures g))

@@ -2,10 +2,10 @@
 use Rattle.protocol.specs.Frames.{outcome_text}
 use Rattle.frames.proofs.printing.outcome_line.Goals as goal
 
-pub returns-in-Refused : goal.returns-in-Refused
+pub returns-in-Err : goal.returns-in-Err
 unfolding outcome_text
-returns-in-Refused c = simp c.in-Refused.is c.refusal_line.ensures
+returns-in-Err c = simp c.in-Err.is c.refusal_line.ensures
 
-pub returns-in-Answered : goal.returns-in-Answered
+pub returns-in-Ok : goal.returns-in-Ok
 unfolding outcome_text
-returns-in-Answered c = simp (c.in-Answered.is, ← c.answer_words.ensures) c.fields_line.ensures
+returns-in-Ok c = simp (c.in-Ok.is, ← c.answer_words.ensures) c.fields_line.ensures

@@ -4,12 +4,12 @@ use Rattle.queries.proofs.rolls.put_before.Goals as goal
 
 pub bounds-output-at : goal.bounds-output-at
 unfolding Room
-bounds-output-at c = simp c.in-Length.is at c.requires
+bounds-output-at c = simp c.in-Ok.is at c.requires
 
-pub returns-in-Refused : goal.returns-in-Refused
+pub returns-in-Err : goal.returns-in-Err
 unfolding preceded
-returns-in-Refused c = simp c.in-Refused.is
+returns-in-Err c = simp c.in-Err.is
 
-pub returns-in-Length : goal.returns-in-Length
+pub returns-in-Ok : goal.returns-in-Ok
 unfolding preceded
-returns-in-Length c = simp c.in-Length.is
+returns-in-Ok c = simp c.in-Ok.is

@@ -3,10 +3,10 @@ use Rattle.protocol.specs.Answers.{refusal}
 use Rattle.protocol.specs.Bytes.{bytes_after, fresh_carried}
 use Rattle.record_bytes.proofs.results.finish_fresh.Goals as goal
 
-pub returns-in-Refused : goal.returns-in-Refused
+pub returns-in-Err : goal.returns-in-Err
 unfolding fresh_carried refusal bytes_after
-returns-in-Refused c = simp c.in-Refused.is
+returns-in-Err c = simp c.in-Err.is
 
-pub returns-in-Answered : goal.returns-in-Answered
+pub returns-in-Ok : goal.returns-in-Ok
 unfolding fresh_carried refusal bytes_after
-returns-in-Answered c = simp (c.in-Answered.is, c.save.ensures)
+returns-in-Ok c = simp (c.in-Ok.is, c.save.ensures)

@@ -3,10 +3,10 @@ use Rattle.protocol.specs.Answers.{owner_refusal, owner_words}
 use Rattle.protocol.specs.Bytes.{over, told}
 use Rattle.record_bytes.proofs.results.finish_owner.Goals as goal
 
-pub returns-in-Refused : goal.returns-in-Refused
+pub returns-in-Err : goal.returns-in-Err
 unfolding told owner_refusal owner_words over
-returns-in-Refused c = simp c.in-Refused.is
+returns-in-Err c = simp c.in-Err.is
 
-pub returns-in-HeldBy : goal.returns-in-HeldBy
+pub returns-in-Ok : goal.returns-in-Ok
 unfolding told owner_refusal owner_words
-returns-in-HeldBy c = simp (c.in-HeldBy.is, c.save.ensures)
+returns-in-Ok c = simp (c.in-Ok.is, c.save.ensures)

@@ -2,9 +2,9 @@
 use Rattle.steps.specs.Settle.{settled}
 use Rattle.steps.proofs.apply.settle.Goals as goal
 
-pub returns-in-Refuse : goal.returns-in-Refuse
+pub returns-in-Err : goal.returns-in-Err
 unfolding settled
-returns-in-Refuse c = simp c.in-Refuse.is
+returns-in-Err c = simp c.in-Err.is
 
 pub returns-in-Reply : goal.returns-in-Reply
 unfolding settled

@@ -5,7 +5,7 @@ use Rattle.layout.specs.Edits.{pushed}
 use Rattle.protocol.specs.Record.{read, asked_in, messages_in}
 use Rattle.steps.specs.Settle.{own_ask_is, sent_ask_is}
 use Rattle.steps.specs.Questions.{asking_11, asking_sent}
-use Rattle.protocol.specs.declared.Outcome.TheVariants.{Answered}
+use Rattle.std.specs.Prelude.{Ok}
 use Rattle.protocol.specs.declared.Answer.TheVariants.{Quiet, Found}
 use Rattle.protocol.specs.Step.{asking}
 use Rattle.protocol.specs.Calls.{written}
@@ -21,7 +21,7 @@ returns-then-m-lt-MOST_MESSAGES c =
     let room = c.if-m-lt-MOST_MESSAGES.true in
     let stored = ap (λ z. set z 3 (asked_in w + 1)) (c.push.ensures ∙ ap (pushed w (messages_in w)) c.question.ensures) in
     rw c.in-To.is
-    (ap (written w) (asking_sent w a.x a.v _ room) ∙ ap (λ z. record { outcome = Answered Quiet; slice = z }) (sym (stored ∙ sent_ask_is w valid _ room)))
+    (ap (written w) (asking_sent w a.x a.v _ room) ∙ ap (λ z. record { outcome = Ok Quiet; slice = z }) (sym (stored ∙ sent_ask_is w valid _ room)))
 
 pub returns-in-Own : goal.returns-in-Own
 unfolding written asking read
@@ -29,7 +29,7 @@ returns-in-Own c =
     let a = c.args in
     let w = a.w.now in
     rw c.in-Own.is
-    (ap (λ z. record { outcome = Answered (Found a.x a.v (asked_in w) 0); slice = z }) (sym (own_ask_is w c.requires.0)))
+    (ap (λ z. record { outcome = Ok (Found a.x a.v (asked_in w) 0); slice = z }) (sym (own_ask_is w c.requires.0)))
 
 pub returns-else-m-lt-MOST_MESSAGES : goal.returns-else-m-lt-MOST_MESSAGES
 unfolding written

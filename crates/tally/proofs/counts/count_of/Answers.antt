@@ -3,10 +3,10 @@ use Rattle.protocol.specs.Answers.{count_of}
 use borrow.Author.Rules.{rules}
 use Rattle.tally.proofs.counts.count_of.Goals as goal
 
-pub returns-in-Refused : goal.returns-in-Refused
+pub returns-in-Err : goal.returns-in-Err
 unfolding count_of
-returns-in-Refused c = search rules
+returns-in-Err c = search rules
 
-pub returns-in-Answered : goal.returns-in-Answered
+pub returns-in-Ok : goal.returns-in-Ok
 unfolding count_of
-returns-in-Answered c = simp c.in-Answered.is c.kind_of.ensures
+returns-in-Ok c = simp c.in-Ok.is c.kind_of.ensures
