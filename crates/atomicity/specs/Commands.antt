@@ -15,6 +15,7 @@ use Rattle.lists.specs.Tests.{and_left, and_right, →eqb}
 use Rattle.protocol.specs.declared.Row.{Row}
 use Rattle.protocol.specs.declared.Answer.TheVariants.{Quiet, Found}
 use Rattle.protocol.specs.declared.Decision.TheVariants.{Send}
+use Rattle.protocol.specs.declared.refusal.Refusal.{Refusal}
 use Rattle.std.specs.Prelude.{Ok}
 use Rattle.protocol.specs.Names.{INSIDE, JOINING, OUTSIDE, WANTING_TO_LEAVE}
 use Rattle.protocol.specs.Record.{round, State, count, row}
@@ -105,11 +106,11 @@ module _ (id : ℕ → ℕ) (small : (h : ℕ) → id h < round) (c : ℕ) (s : 
   abbrev H : Holds id c s.rows s.asked members ks G.ms
   H = G.holds
 
-  abbrev Ok : ℕ → Result → Type 0
-  Ok q r = Fine id c members ks q true r
+  abbrev Right : ℕ → Result → Type 0
+  Right q r = Fine id c members ks q true r
 
-  test : (q : ℕ) (b : Bool) (k : ℕ) (r : Result) → (T b → Ok q r) → Ok q (require b (refused k) r)
-  test q b k r f = tested (Ok q) b (refused k) r (fine_refused id c members ks q k) f
+  test : (q : ℕ) (b : Bool) (k : Refusal) (r : Result) → (T b → Right q r) → Right q (require b (refused k) r)
+  test q b k r f = tested (Right q) b (refused k) r (fine_refused id c members ks q k) f
 
   numbers_more : (u : Msg) → Numbers c u → (x : Msg) → Mem x (G.ms ++ (u ∷ [])) → Numbers c x
   numbers_more u nu x k = go (mem_split x G.ms (u ∷ []) k)
@@ -126,7 +127,7 @@ module _ (id : ℕ → ℕ) (small : (h : ℕ) → id h < round) (c : ℕ) (s : 
   put : (x : ℕ) (v : Row) (u : Msg) → v.identifier ≡ (row s x).identifier
       → Inv round id c (hubs (set s.rows x v) (mark members)) [] (G.ms ++ (u ∷ []))
       → ((k : ℕ) → waits k u ≡ 0) → asks u ≡ 0 → Numbers c u
-      → Ok s.asked (conclude s x (Ok (Send v (erase u) Quiet)))
+      → Right s.asked (conclude s x (Ok (Send v (erase u) Quiet)))
   unfolding conclude
   put x v u e i tk ln nu = fine_accepted id c members ks s.asked true Quiet _ (record {
     named = tt;
@@ -152,7 +153,7 @@ module _ (id : ℕ → ℕ) (small : (h : ℕ) → id h < round) (c : ℕ) (s : 
   written : (x : ℕ) (v : Row) → T (nat_lt x (count s)) → Rewritten (hubs s.rows (mark members)) (hubs (set s.rows x v) (mark members)) x (core_of v) v.succ
   written x v t = rewritten s.rows (mark members) (mark members) x v (ltb→lt x (count s) t)
 
-  pub join_fine : (x y : ℕ) → Ok s.asked (step.join s x y)
+  pub join_fine : (x y : ℕ) → Right s.asked (step.join s x y)
   unfolding step.join
   join_fine x y =
       test s.asked _ _ _ λ t4. test s.asked _ _ _ λ t6. test s.asked _ _ _ λ t5. test s.asked _ _ _ λ t11.
@@ -162,7 +163,7 @@ module _ (id : ℕ → ℕ) (small : (h : ℕ) → id h < round) (c : ℕ) (s : 
       (enter_row H.inv (λ h. refl) x y (below x tx) (eqb→eq _ 0 t6) (written x _ tx))
       (λ k. refl) refl (nums (join x y x) (below x tx) (below y ty) (λ e. omega arith))
 
-  pub leave_fine : (x : ℕ) → Ok s.asked (step.leave s x)
+  pub leave_fine : (x : ℕ) → Right s.asked (step.leave s x)
   unfolding step.leave
   leave_fine x =
       test s.asked _ _ _ λ t4. test s.asked _ _ _ λ t5. test s.asked _ _ _ λ t7. test s.asked _ _ _ λ t8. test s.asked _ _ _ λ t11.
@@ -183,12 +184,12 @@ module _ (id : ℕ → ℕ) (small : (h : ℕ) → id h < round) (c : ℕ) (s : 
       subst (λ z. In round z (id x) v) (H.names (row s x).pred)
       (subst (λ z. In round (row s (row s x).pred).identifier z v) (H.names x) i)
 
-  pub ask_fine : (x v : ℕ) → v < round → Ok (s.asked + 1) (step.ask s x v)
+  pub ask_fine : (x v : ℕ) → v < round → Right (s.asked + 1) (step.ask s x v)
   unfolding step.ask asking
   ask_fine x v lv =
       test (s.asked + 1) _ _ _ λ t4. test (s.asked + 1) _ _ _ λ t5. test (s.asked + 1) _ _ _ λ t12.
       let r = ring_states (row s x) t5 in
-      onward_fine (Ok (s.asked + 1)) (asking s x v) _ (row s x) v
+      onward_fine (Right (s.asked + 1)) (asking s x v) _ (row s x) v
       (test (s.asked + 1) _ _ _ λ t11.
       fine_accepted id c members ks (s.asked + 1) true Quiet _ (record {
         named = tt;

@@ -5,6 +5,7 @@ use Rattle.std.specs.Prelude.{◌≡◌, true, List, [], ◌∷◌, ◌++◌, �
 use Rattle.lists.specs.Basics.{Mem, All, times}
 use Rattle.protocol.specs.declared.Message.{Message}
 use Rattle.protocol.specs.declared.Answer.TheVariants.{Quiet, Found}
+use Rattle.protocol.specs.declared.refusal.Refusal.{Refusal}
 use Rattle.protocol.specs.Outcomes.{Outcome}
 use Rattle.std.specs.Prelude.{Err, Ok}
 use Rattle.protocol.specs.Record.{round, State, read}
@@ -98,7 +99,7 @@ pub record Claims (engine : Engine) (ids : List ℕ) (founder : ℕ) (events : L
   -- (d) No two found answers have the same ticket.
   pub once : (ticket : ℕ) → times (found_tickets events) ticket ≤ 1
   -- (e) A next deliver call that names the sender and receiver of any waiting message is not refused.
-  pub next : (m : Message) → Mem m (engine.reads w).messages → (k : ℕ)
+  pub next : (m : Message) → Mem m (engine.reads w).messages → (k : Refusal)
       → (called engine w (record { operation = 3; x = m.from; y = m.to })).outcome ≡ Err k → ⊥
 
 -- For every reached record: one founder, one list of calls, one ledger.

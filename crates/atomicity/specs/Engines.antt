@@ -6,6 +6,7 @@ use Rattle.lists.specs.Basics.{distinct}
 use Rattle.lists.specs.Choice.{granted}
 use Rattle.protocol.specs.declared.Answer.{Answer}
 use Rattle.protocol.specs.declared.Answer.TheVariants.{Quiet}
+use Rattle.protocol.specs.declared.refusal.Refusal.{Refusal}
 use Rattle.protocol.specs.Outcomes.{Outcome}
 use Rattle.std.specs.Prelude.{Err, Ok}
 use Rattle.protocol.specs.Record.{most_nodes, record_size, State, words}
@@ -24,7 +25,7 @@ answered_is : Outcome → Type 0
 answered_is (Err k) = ⊥
 answered_is (Ok a) = Unit {0}
 
-pub refused_answered : {k : ℕ} {a : Answer} → Err k ≡ Ok a → ⊥
+pub refused_answered : {k : Refusal} {a : Answer} → Err k ≡ Ok a → ⊥
 unfolding answered_is
 refused_answered e = subst answered_is (sym e) tt
 
@@ -86,7 +87,7 @@ pub present_begins : (slice ids : List ℕ) (founder : ℕ) → (fresh_by_call s
 unfolding written
 present_begins slice ids founder =
     fresh_cases slice ids founder (λ z. z.outcome ≡ Ok Quiet → Begun (λ s tail. words s ++ tail) ids founder z.slice)
-    (λ k l m e. absurd (refused_answered e))
+    (λ k m e. absurd (refused_answered e))
     (λ a e. record { below = a.below; few = a.few; differ = a.differ; tail = drop record_size slice; is = refl })
 
 abbrev pub present_laws : Laws present

@@ -16,6 +16,7 @@ use Rattle.protocol.specs.declared.Route.TheVariants.{Own, To}
 use Rattle.protocol.specs.declared.Answer.TheVariants.{Quiet, Found}
 use Rattle.protocol.specs.Outcomes.{Outcome}
 use Rattle.std.specs.Prelude.{Err, Ok}
+use Rattle.protocol.specs.declared.refusal.Refusal.{Refusal}
 use Rattle.protocol.specs.declared.refusal.Refusal.TheVariants.{IdentifierCount, IdentifierTwice, LastHub, NoFounder, NoMessage, NotInRing}
 use Rattle.protocol.specs.Record.{round, record_size, State, count, row, identifier, ticketed, words}
 use Rattle.protocol.specs.Fresh.{smallest, alone, fresh}
@@ -36,11 +37,14 @@ pub never_18 : (w ids : List ℕ) → (fresh_call w ids).outcome ≡ Err NoFound
 unfolding written
 never_18 w ids =
     fresh_cases w ids (smallest ids) (λ z. z.outcome ≡ Err NoFounder → ⊥)
-    (λ k l m e. let n = m (ap number_of e) in omega (arith, n.1, (smallest_least ids n.0).below))
+    (λ k m e. let n = m (reason_is e) in omega (arith, n.1, (smallest_least ids n.0).below))
     (λ a e. refused_answered (sym e))
   where
-    number_of : Outcome → ℕ
-    number_of = elim [ Err k ↦ k | Ok a ↦ 0 ]
+    reason : Outcome → Refusal
+    reason = elim [ Err k ↦ k | Ok a ↦ NoFounder ]
+
+    reason_is : {k : Refusal} → ◌≡◌ {A = Outcome} (Err k) (Err NoFounder) → k ≡ NoFounder
+    reason_is e = ap reason e
 
 -- Question 18 is the last one: an empty list and one with a repeated identifier are refused before it.
 pub in_order : (w : List ℕ) → record_size ≤ length w

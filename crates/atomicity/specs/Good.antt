@@ -18,6 +18,7 @@ use Rattle.protocol.specs.declared.Answer.{Answer}
 use Rattle.protocol.specs.declared.Answer.TheVariants.{Quiet, Found, Entered, Gone, JoinTurnedAway, LeaveTurnedAway, Joined, Left}
 use Rattle.protocol.specs.declared.Route.{Route}
 use Rattle.protocol.specs.declared.Route.TheVariants.{Own, To}
+use Rattle.protocol.specs.declared.refusal.Refusal.{Refusal}
 use Rattle.protocol.specs.Names.{LEAVING, LOOKUP}
 use Rattle.protocol.specs.Record.{round, State, outside}
 use Rattle.protocol.specs.Routing.{covers, onward, route}
@@ -142,7 +143,7 @@ module _ (id : ℕ → ℕ) (c : ℕ) (members ks : List ℕ) (q : ℕ) where
   Fine b (refused k) = T b
   Fine b (accepted a s) = Next a s
 
-  pub fine_refused : (k : ℕ) → Fine true (refused k)
+  pub fine_refused : (k : Refusal) → Fine true (refused k)
   unfolding Fine
   fine_refused k = tt
 
@@ -154,7 +155,7 @@ module _ (id : ℕ → ℕ) (c : ℕ) (members ks : List ℕ) (q : ℕ) where
   unfolding Fine
   fine_next b a s x = x
 
-  pub not_refused : (k : ℕ) → Fine false (refused k) → ⊥
+  pub not_refused : (k : Refusal) → Fine false (refused k) → ⊥
   unfolding Fine
   not_refused k x = x
 

@@ -23,7 +23,7 @@ use Rattle.protocol.specs.declared.Message.{Message}
 use Rattle.protocol.specs.declared.Answer.{Answer}
 use Rattle.protocol.specs.declared.Route.{Route}
 use Rattle.protocol.specs.declared.Route.TheVariants.{Own, To}
-use Rattle.protocol.specs.declared.Decision.{Decision}
+use Rattle.protocol.specs.Outcomes.{Decided}
 use Rattle.protocol.specs.declared.Decision.TheVariants.{Reply, Send}
 use Rattle.std.specs.Prelude.{Err, Ok}
 use Rattle.protocol.specs.Names.{INSIDE, JOINING, LEAVING, OUTSIDE, WANTING_TO_LEAVE, JOIN, JOINRETRY, JOINPOINT, NEWSUCC, NEWSUCCACK, JOINDONE, LEAVEREQ, LEAVERETRY, LEAVEGRANT, LEAVEPOINT, UPDATESUCC, STOPFORWARD, LEAVEDONE, LOOKUP}
@@ -55,9 +55,9 @@ unfolding grown
 grown_fits m l =
     choose (λ z. z ≤ 65535) _ _ _ (λ _. l) (λ _. choose (λ z. z ≤ 65535) _ (m.hops + 1) m.hops (λ t. omega (arith, ltb→lt m.hops 65535 t)) (λ _. l))
 
--- A decision at a hub with row h, in a ring of n hubs with q questions asked: its row and its message are as they must be. It refuses by 10 alone.
-abbrev pub Sound : ℕ → ℕ → Row → Decision → Type 0
-Sound n q h (Err k) = k ≡ 10
+-- A decision at a hub with row h, in a ring of n hubs with q questions asked: its row and its message are as they must be. It refuses where receiver or hub is not as required, and else not.
+abbrev pub Sound : ℕ → ℕ → Row → Decided → Type 0
+Sound n q h (Err k) = k ≡ NotExpected
 Sound n q h (Ok (Reply v a)) = RowForm n v × (v.identifier ≡ h.identifier)
 Sound n q h (Ok (Send v m a)) = RowForm n v × (v.identifier ≡ h.identifier) × MessageForm n q m
 
@@ -76,10 +76,10 @@ note_form k x y a l u hx hy node nil = record {
 }
 
 module _ (n q : ℕ) (h : Row) (r : RowForm n h) (m : Message) (ok : MessageForm n q m) where
-  abbrev Well : Decision → Type 0
+  abbrev Well : Decided → Type 0
   Well d = Sound n q h d
 
-  if_else : (b : Bool) (d : Decision) → (T b → Well d) → Well (when b then d else Err NotExpected)
+  if_else : (b : Bool) (d : Decided) → (T b → Well d) → Well (when b then d else Err NotExpected)
   if_else b d f = choose Well b d (Err NotExpected) f (λ _. refl)
 
   -- the flag is down in every state but 2
@@ -338,7 +338,7 @@ module _ (n q : ℕ) (h : Row) (r : RowForm n h) (m : Message) (ok : MessageForm
       (by 9 _ _ (λ e. leave_retry_sound) (by 10 _ _ (λ e. leave_grant_sound) (by 11 _ _ (λ e. leave_point_sound (names_hub 11 tt (omega arith) e))
       (by 12 _ _ (λ e. update_succ_sound) (by 13 _ _ (λ e. stop_forward_sound) (by 14 _ _ (λ e. freed _) refl)))))))))))))
     where
-      by : (k : ℕ) (x y : Decision) → (m.kind ≡ k → Well x) → Well y → Well (when nat_eq m.kind k then x else y)
+      by : (k : ℕ) (x y : Decided) → (m.kind ≡ k → Well x) → Well y → Well (when nat_eq m.kind k then x else y)
       by k x y f g = choose Well (nat_eq m.kind k) x y (λ t. f (eqb→eq m.kind k t)) (λ _. g)
 
 -- the row of hub t is made v
@@ -354,7 +354,7 @@ with_row_form s t v f r e =
       messages = λ m k. rw n (f.messages m k);
     }
 
-conclude_form : (s : State) (t : ℕ) (d : Decision) → Form s → length s.messages < most_messages → Sound (count s) s.asked (row s t) d → Leaves (conclude s t d)
+conclude_form : (s : State) (t : ℕ) (d : Decided) → Form s → length s.messages < most_messages → Sound (count s) s.asked (row s t) d → Leaves (conclude s t d)
 unfolding conclude
 conclude_form s t (Err k) f l w = leaves_refused k
 conclude_form s t (Ok (Reply v a)) f l w = leaves_accepted a _ (with_row_form s t v f w.0 w.1)

@@ -7,6 +7,8 @@ use Rattle.lists.specs.Choice.{tested}
 use Rattle.lists.specs.Tests.{T_true, true_T, says_distinct}
 use Rattle.protocol.specs.declared.Answer.{Answer}
 use Rattle.protocol.specs.declared.Answer.TheVariants.{Quiet}
+use Rattle.protocol.specs.declared.refusal.Refusal.{Refusal}
+use Rattle.protocol.specs.declared.refusal.Refusal.TheVariants.{NotWellFormed, RecordShort}
 use Rattle.protocol.specs.Outcomes.{Outcome}
 use Rattle.std.specs.Prelude.{Err, Ok}
 use Rattle.protocol.specs.Record.{most_nodes, record_size, read, words}
@@ -28,7 +30,7 @@ pub record Kept (w v : List ℕ) : Type 0 where
 abbrev pub Sound : List ℕ → Called → Type 0
 Sound w r = Kept w r.slice × ((a : Answer) → r.outcome ≡ Ok a → well_formed r.slice ≡ true)
 
-turned_sound : (w : List ℕ) (k : ℕ) → Sound w (turned_down w k)
+turned_sound : (w : List ℕ) (k : Refusal) → Sound w (turned_down w k)
 turned_sound w k = (record { size = refl; later = refl }, λ a e. absurd (no_answer e))
   where
     is_refused : Outcome → Type 0
@@ -54,14 +56,14 @@ written_sound w (accepted a s) l f =
 pub step_sound : (w : List ℕ) (operation x y : ℕ) → Sound w (step_call w operation x y)
 unfolding step_call on_record long
 step_sound w operation x y =
-    tested (Sound w) (nat_le record_size (length w)) _ _ (turned_sound w 1)
-    (λ t. tested (Sound w) (well_formed w) _ _ (turned_sound w 2)
+    tested (Sound w) (nat_le record_size (length w)) _ _ (turned_sound w RecordShort)
+    (λ t. tested (Sound w) (well_formed w) _ _ (turned_sound w NotWellFormed)
     (λ ok. written_sound w (step (read w) operation x y) (leb→le record_size (length w) t) (step_form (read w) (form_of w ok) operation x y)))
 
 -- So does an accepted fresh, whoever founds.
 pub fresh_sound : (w ids : List ℕ) (founder : ℕ) → Sound w (fresh_by_call w ids founder)
 fresh_sound w ids founder =
-    fresh_cases w ids founder (Sound w) (λ k l m. turned_sound w k)
+    fresh_cases w ids founder (Sound w) (λ k m. turned_sound w k)
     (λ a. written_sound w (accepted Quiet (fresh ids founder)) a.long
     (leaves_accepted Quiet (fresh ids founder) (fresh_form ids founder a.below a.few ((says_distinct ids).to a.differ))))
 

@@ -16,6 +16,7 @@ use Rattle.lists.specs.Members.{mem_mid, all_at, get_d_any, by_row}
 use Rattle.lists.specs.Search.{Located, Missed, search_ends}
 use Rattle.lists.specs.Tests.{and_left, and_right, and_both, →eqb, true_T, T_true}
 use Rattle.protocol.specs.declared.Row.{Row}
+use Rattle.protocol.specs.declared.refusal.Refusal.TheVariants.{NoHub, NoMessage, NoOperation}
 use Rattle.protocol.specs.Names.{INSIDE, OUTSIDE}
 use Rattle.protocol.specs.Record.{round, State, count, row, identifier, message, no_message, outside, without_message}
 use Rattle.protocol.specs.Fresh.{alone, founded_by, fresh}
@@ -122,22 +123,22 @@ question operation = when nat_eq operation 0 then 1 else 0
 
 module _ (id : ℕ → ℕ) (small : (h : ℕ) → id h < round) (c : ℕ) (inj : (a b : ℕ) → a < c → b < c → id a ≡ id b → a ≡ b)
     (s : State) (members ks : List ℕ) (G : Good id c s members ks) where
-  abbrev Ok : ℕ → Bool → Result → Type 0
-  Ok q b r = Fine id c members ks q b r
+  abbrev Right : ℕ → Bool → Result → Type 0
+  Right q b r = Fine id c members ks q b r
 
   abbrev Ends : ℕ → ℕ → Type 0
   Ends x y = Located (on_link s x y) (length s.messages) ⊎ Missed (on_link s x y) (length s.messages)
 
   -- a delivery on a link where something waits is not refused
-  pub delivered_fine : (x y : ℕ) → Located (on_link s x y) (length s.messages) → Ok s.asked false (step.deliver s x y)
+  pub delivered_fine : (x y : ℕ) → Located (on_link s x y) (length s.messages) → Right s.asked false (step.deliver s x y)
   unfolding step.deliver delivered
   delivered_fine x y k =
-      granted (Ok s.asked false) _ _ _
+      granted (Right s.asked false) _ _ _
       (and_both (nat_lt x (count s)) (nat_lt y (count s)) (lt→ltb x (count s) (omega (arith, rw o.src at N.src, size'))) (lt→ltb y (count s) (omega (arith, rw o.dst at N.dst, size'))))
-      (granted (Ok s.asked false) _ _ _ (lt→ltb _ _ k.below)
-      (subst (λ z. Ok s.asked false (conclude (without_message s j) y (handle (identifier s (row s y).pred) (row s y) (row s z.a) z))) (sym o.is)
-      (subst (λ z. Ok s.asked false (conclude (record { rows = s.rows; messages = z; asked = s.asked }) y (handle (identifier s (row s y).pred) (row s y) (row s (erase o.msg).a) (erase o.msg)))) (sym o.rest)
-      (subst (λ z. Ok s.asked false (conclude (record { rows = s.rows; messages = map erase o.pre ++ map erase o.post; asked = s.asked }) z (handle (identifier s (row s z).pred) (row s z) (row s (erase o.msg).a) (erase o.msg)))) o.dst
+      (granted (Right s.asked false) _ _ _ (lt→ltb _ _ k.below)
+      (subst (λ z. Right s.asked false (conclude (without_message s j) y (handle (identifier s (row s y).pred) (row s y) (row s z.a) z))) (sym o.is)
+      (subst (λ z. Right s.asked false (conclude (record { rows = s.rows; messages = z; asked = s.asked }) y (handle (identifier s (row s y).pred) (row s y) (row s (erase o.msg).a) (erase o.msg)))) (sym o.rest)
+      (subst (λ z. Right s.asked false (conclude (record { rows = s.rows; messages = map erase o.pre ++ map erase o.post; asked = s.asked }) z (handle (identifier s (row s z).pred) (row s z) (row s (erase o.msg).a) (erase o.msg)))) o.dst
       (deliver_fine id small c inj s.rows s.asked members ks o.pre o.post o.msg o.clear H)))))
     where
       j : ℕ
@@ -156,33 +157,33 @@ module _ (id : ℕ → ℕ) (small : (h : ℕ) → id h < round) (c : ℕ) (inj 
       size' = H.size
 
   -- what is fine with no refusal is fine
-  fine_both : (q : ℕ) (r : Result) → Ok q false r → Ok q true r
+  fine_both : (q : ℕ) (r : Result) → Right q false r → Right q true r
   fine_both q (refused k) f = absurd (not_refused id c members ks q k f)
   fine_both q (accepted a s') f = fine_accepted id c members ks q true a s' (fine_next id c members ks q false a s' f)
 
-  deliver_any : (x y : ℕ) → Ends x y → Ok s.asked true (step.deliver s x y)
+  deliver_any : (x y : ℕ) → Ends x y → Right s.asked true (step.deliver s x y)
   unfolding step.deliver
   deliver_any x y (inl k) = fine_both s.asked _ (delivered_fine x y k)
   deliver_any x y (inr k) =
-      tested (Ok s.asked true) _ _ _ (fine_refused id c members ks s.asked 4)
-      (λ _. tested (Ok s.asked true) _ _ _ (fine_refused id c members ks s.asked 9)
+      tested (Right s.asked true) _ _ _ (fine_refused id c members ks s.asked NoHub)
+      (λ _. tested (Right s.asked true) _ _ _ (fine_refused id c members ks s.asked NoMessage)
       (λ t. absurd (omega (arith, ltb→lt (oldest s x y) (length s.messages) t, k.end))))
 
   -- an ask takes a ticket, the other commands do not
-  counts : (b : Bool) (x y : Result) → Ok (s.asked + 1) true x → Ok s.asked true y → Ok (s.asked + (when b then 1 else 0)) true (when b then x else y)
+  counts : (b : Bool) (x y : Result) → Right (s.asked + 1) true x → Right s.asked true y → Right (s.asked + (when b then 1 else 0)) true (when b then x else y)
   unfolding when◌then◌else◌
   counts true x y f g = f
   counts false x y f g = rw add-zero g
 
   -- one step, whatever the command
-  pub step_fine : (operation x y : ℕ) → y < round → Ok (s.asked + question operation) true (step.step s operation x y)
+  pub step_fine : (operation x y : ℕ) → y < round → Right (s.asked + question operation) true (step.step s operation x y)
   unfolding step.step
   step_fine operation x y ly =
       counts (nat_eq operation 0) _ _ (ask_fine id small c s members ks G x y ly)
-      (choose (Ok s.asked true) (nat_eq operation 1) _ _ (λ _. join_fine id small c s members ks G x y)
-      (λ _. choose (Ok s.asked true) (nat_eq operation 2) _ _ (λ _. leave_fine id small c s members ks G x)
-      (λ _. choose (Ok s.asked true) (nat_eq operation 3) _ _ (λ _. deliver_any x y (search_ends (on_link s x y) (length s.messages)))
-      (λ _. fine_refused id c members ks s.asked 3))))
+      (choose (Right s.asked true) (nat_eq operation 1) _ _ (λ _. join_fine id small c s members ks G x y)
+      (λ _. choose (Right s.asked true) (nat_eq operation 2) _ _ (λ _. leave_fine id small c s members ks G x)
+      (λ _. choose (Right s.asked true) (nat_eq operation 3) _ _ (λ _. deliver_any x y (search_ends (on_link s x y) (length s.messages)))
+      (λ _. fine_refused id c members ks s.asked NoOperation))))
 
 -- The invariant of a ring in which hub f is alone.
 module _ (id : ℕ → ℕ) (c : ℕ) (S : Hubs) (f : ℕ) (lf : f < c)

@@ -16,6 +16,7 @@ use Rattle.lists.specs.Tests.{and_left, and_right, and_both, true_T, T_true, →
 use Rattle.protocol.specs.declared.Message.{Message}
 use Rattle.protocol.specs.declared.Answer.{Answer}
 use Rattle.protocol.specs.declared.Answer.TheVariants.{Quiet, Found}
+use Rattle.protocol.specs.declared.refusal.Refusal.{Refusal}
 use Rattle.protocol.specs.Outcomes.{Outcome}
 use Rattle.std.specs.Prelude.{Err, Ok}
 use Rattle.protocol.specs.Names.{INSIDE, WANTING_TO_LEAVE, LOOKUP}
@@ -153,7 +154,7 @@ module _ (ids : List ℕ) (small : (h : ℕ) → get_or ids h 0 < round) (inj : 
 
   -- a found answer's owner, as the ledger computes it
   owner_named : {s : State} {members ks : List ℕ} → Good id c s members ks → (a : Answer) → Names id members a
-      → (hub number ticket hops : ℕ) → Ok a ≡ Ok (Found hub number ticket hops) → owner_among ids members number ≡ node hub
+      → (hub number ticket hops : ℕ) → ◌≡◌ {A = Outcome} (Ok a) (Ok (Found hub number ticket hops)) → owner_among ids members number ≡ node hub
   unfolding answer_in
   owner_named {s} {members} {ks} G a n hub number ticket hops e =
       let k = subst (Names id members) (ap answer_in e) n in
@@ -238,7 +239,7 @@ module _ (ids : List ℕ) (small : (h : ℕ) → get_or ids h 0 < round) (inj : 
             ∙ l.none p.0 p.1))
 
     -- so a delivery there is not refused
-    next : (m : Message) → Mem m s.messages → (k : ℕ) → deliver s m.from m.to ≡ refused k → ⊥
+    next : (m : Message) → Mem m s.messages → (k : Refusal) → deliver s m.from m.to ≡ refused k → ⊥
     next m i k e =
         not_refused id c members ks s.asked k
         (subst (Fine id c members ks s.asked false) e (delivered_fine id small c inj s members ks G m.from m.to (waits m i)))
@@ -308,10 +309,10 @@ module _ (ids : List ℕ) (founder : ℕ) (engine : Engine) (L : Laws engine) (P
       inj : (a b : ℕ) → a < length ids → b < length ids → get_or ids a 0 ≡ get_or ids b 0 → a ≡ b
       inj = r.ring.inj
 
-      Ok : Result → Type 0
-      Ok x = Fine (λ h. get_or ids h 0) (length ids) members r.tickets (s.asked + question k.operation) true x
+      Right : Result → Type 0
+      Right x = Fine (λ h. get_or ids h 0) (length ids) members r.tickets (s.asked + question k.operation) true x
 
-      go : (x : Result) → Ok x → On L.Fits x → Kept ids P members x
+      go : (x : Result) → Right x → On L.Fits x → Kept ids P members x
           → Way (events ++ (record { call = k; outcome = (left L.put (L.put s tail) tail x).outcome } ∷ [])) (left L.put (L.put s tail) tail x).slice
       go (refused z) fine f p =
           more events w r k (Err z) s tail r.tickets r.fits r.good r.also (omega arith) refl (λ hub number ticket hops e. absurd (refused_answered e))
@@ -406,7 +407,7 @@ module _ (ids : List ℕ) (engine : Engine) (L : Laws engine) where
       holds_of : (h v : ℕ) → holds (engine.reads (L.put s r.tail)) h v ≡ true → holds s h v ≡ true
       holds_of h v p = subst (λ z. holds z h v ≡ true) same p
 
-      next_call : (m : Message) → Mem m s.messages → (k : ℕ) → (called engine (L.put s r.tail) (record { operation = 3; x = m.from; y = m.to })).outcome ≡ Err k → ⊥
+      next_call : (m : Message) → Mem m s.messages → (k : Refusal) → (called engine (L.put s r.tail) (record { operation = 3; x = m.from; y = m.to })).outcome ≡ Err k → ⊥
       next_call m i k e =
           go (deliver s m.from m.to) refl (sym (ap (λ z. z.outcome) (L.calls s r.tail (record { operation = 3; x = m.from; y = m.to }) r.fits)) ∙ e)
         where

@@ -9,17 +9,19 @@ use Rattle.lists.specs.Choice.{tested}
 use Rattle.lists.specs.Members.{all_append}
 use Rattle.protocol.specs.declared.Answer.TheVariants.{Quiet}
 use Rattle.std.specs.Prelude.{Ok}
+use Rattle.protocol.specs.declared.refusal.Refusal.{Refusal}
 use Rattle.protocol.specs.declared.refusal.Refusal.TheVariants.{RecordShort, NotWellFormed, OutputShort}
 use Rattle.protocol.specs.Record.{read}
 use Rattle.protocol.specs.WellFormed.{well_formed}
 use Rattle.protocol.specs.Step as meaning
 use Rattle.protocol.specs.Step.{Result, refused, accepted}
 use Rattle.protocol.specs.Calls.{Called, long, on_record, turned_down, written, step_call, fresh_by_call}
+use Rattle.protocol.specs.Refusals.{number_of}
 use Rattle.protocol.specs.Answers.{refusal}
 use Rattle.protocol.specs.Bytes.{Byte, words_of, over, bytes_after, carried, step_bytes, fresh_carried, fresh_by_bytes}
 use Rattle.protocol.specs.Batch.{ask_each, unasked, batch_written, batch_call, batch_carried, batch_bytes}
 use Rattle.layout.specs.Bytes.{words_below, written_read}
-use Rattle.layout.specs.Questions.{fresh_cases, batch_both}
+use Rattle.layout.specs.Questions.{above_0, fresh_cases, batch_both}
 use Rattle.atomicity.specs.Demand3.{Call, ThreeWords, Event, Word, present, called, history, record_after, Founded, from_fresh, Claims, Demand3}
 use Rattle.atomicity.specs.Record.{step_sound, fresh_sound}
 use Rattle.atomicity.specs.Theorem.{demand_3}
@@ -75,7 +77,7 @@ module _ (b : List ℕ) where
   Back : Called → Type 0
   Back z = All Word z.slice → length z.slice ≡ length (words_of b) → words_of (bytes_after b z.slice z.outcome) ≡ z.slice
 
-  turned_back : (k : ℕ) → Back (turned_down (words_of b) k)
+  turned_back : (k : Refusal) → Back (turned_down (words_of b) k)
   unfolding Back bytes_after
   turned_back k w l = refl
 
@@ -91,7 +93,7 @@ module _ (b : List ℕ) where
       (λ l. tested Back (well_formed (words_of b)) _ _ (turned_back NotWellFormed) (λ f. written_back (meaning.step (read (words_of b)) operation x y)))
 
   fresh_back : (ids : List ℕ) (founder : ℕ) → Back (fresh_by_call (words_of b) ids founder)
-  fresh_back ids founder = fresh_cases (words_of b) ids founder Back (λ k l m. turned_back k) (λ a. written_back (accepted Quiet _))
+  fresh_back ids founder = fresh_cases (words_of b) ids founder Back (λ k m. turned_back k) (λ a. written_back (accepted Quiet _))
 
 -- A record that was reached in a slice of 32-bit words; and bytes that carry one.
 abbrev Reach : List ℕ → ℕ → List Event → List ℕ → Type 0
@@ -135,7 +137,7 @@ module _ (ids : List ℕ) (founder : ℕ) (events : List Event) (b : List ℕ) (
   unfolding step_bytes carried batch_bytes batch_carried batch_call batch_written require when◌then◌else◌ bytes_after
   one_call (step c out) t = go (nat_le 20 (length out))
     where
-      go : (z : Bool) → At ids founder (events ++ require z [] (event b c ∷ [])) (require z (record { code = OutputShort; bytes = b; output = out }) (carried b out (called present (words_of b) c))).bytes
+      go : (z : Bool) → At ids founder (events ++ require z [] (event b c ∷ [])) (require z (record { code = number_of OutputShort; bytes = b; output = out }) (carried b out (called present (words_of b) c))).bytes
       go true = steps_on ids founder events b r c t
       go false = none
   one_call (route hub numbers out) t =
@@ -156,7 +158,7 @@ every_call ids founder events b r (c ∷ calls) t =
 fresh_zero : (w ids : List ℕ) (founder : ℕ) → refusal (fresh_by_call w ids founder).outcome ≡ 0 → (fresh_by_call w ids founder).outcome ≡ Ok Quiet
 unfolding refusal written
 fresh_zero w ids founder =
-    fresh_cases w ids founder (λ z. refusal z.outcome ≡ 0 → z.outcome ≡ Ok Quiet) (λ k l m e. absurd (omega arith)) (λ a e. refl)
+    fresh_cases w ids founder (λ z. refusal z.outcome ≡ 0 → z.outcome ≡ Ok Quiet) (λ k m e. absurd (omega (arith, e, above_0 k))) (λ a e. refl)
 
 begins : (lent ids : List ℕ) (founder : ℕ) → All Byte lent → All Word ids → refusal (fresh_by_call (words_of lent) ids founder).outcome ≡ 0
     → At ids founder [] (bytes_after lent (fresh_by_call (words_of lent) ids founder).slice (fresh_by_call (words_of lent) ids founder).outcome)

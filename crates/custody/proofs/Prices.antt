@@ -6,6 +6,7 @@ use mathlib.Core.List.{List, [], ◌∷◌, map}
 use Rattle.std.proofs.Math.ListN.{length-set, length-map}
 use Rattle.lists.specs.Choice.{tested}
 use Rattle.protocol.specs.declared.Answer.TheVariants.{Quiet, Found, Entered, Gone, JoinTurnedAway, LeaveTurnedAway, Joined, Left}
+use Rattle.protocol.specs.declared.refusal.Refusal.{Refusal}
 use Rattle.protocol.specs.Outcomes.{Outcome}
 use Rattle.std.specs.Prelude.{Err, Ok}
 use Rattle.protocol.specs.Record.{read}
@@ -42,7 +43,7 @@ module _ (w k : List ℕ) where
       Right : CardsCalled → Type 0
       Right z = after z ≡ prices_then prices c z.outcome
 
-      as_it_was : (c : CardCall) (number : ℕ) → prices ≡ prices_then prices c (Err number)
+      as_it_was : (c : CardCall) (number : Refusal) → prices ≡ prices_then prices c (Err number)
       as_it_was (step s) number = refl
       as_it_was (offer o) number = refl
       as_it_was (route r) number = refl

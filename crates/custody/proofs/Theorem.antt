@@ -16,6 +16,7 @@ use Rattle.protocol.specs.declared.Message.{Message}
 use Rattle.protocol.specs.declared.Answer.TheVariants.{Quiet, Found, Entered, Gone, JoinTurnedAway, LeaveTurnedAway, Joined, Left}
 use Rattle.protocol.specs.Outcomes.{Outcome}
 use Rattle.std.specs.Prelude.{Err, Ok}
+use Rattle.protocol.specs.declared.refusal.Refusal.{Refusal}
 use Rattle.protocol.specs.declared.refusal.Refusal.TheVariants.{RecordShort}
 use Rattle.protocol.specs.Record.{most_nodes, State, count, outside, read}
 use Rattle.protocol.specs.WellFormed.{identifiers, well_formed}
@@ -44,7 +45,7 @@ use Rattle.custody.proofs.Offers.{offer_fair}
 use Rattle.custody.specs.Kept.{Ledger, Kept, to_marked, from_marked, book_form, moves, takes}
 
 -- A step without cards leaves the slice where it is refused.
-refused_same : (w : List ℕ) (c : Call) (number : ℕ) → (called present w c).outcome ≡ Err number → (called present w c).slice ≡ w
+refused_same : (w : List ℕ) (c : Call) (number : Refusal) → (called present w c).outcome ≡ Err number → (called present w c).slice ≡ w
 unfolding step_call on_record written
 refused_same w c number = tested Same _ _ _ (λ e. refl) (λ _. tested Same _ _ _ (λ e. refl) (λ _. of_result (meaning.step (read w) c.operation c.x c.y)))
   where
@@ -173,7 +174,7 @@ module _ (ids : List ℕ) (founder : ℕ) (rest : List ℕ) where
           subst (λ z. T (nat_le 1 (length (marked (set z hub 0))))) (sym marks_are)
           (le→leb 1 _ (member_some (marked (set b.marks hub 0)) M.some.0 (marked_mem (set b.marks hub 0) M.some.0 m)))
 
-      follows : (o : Outcome) → ((number : ℕ) → o ≡ Err number → v ≡ w) → Way (next o) v → Followed c o v (after_call w k v o)
+      follows : (o : Outcome) → ((number : Refusal) → o ≡ Err number → v ≡ w) → Way (next o) v → Followed c o v (after_call w k v o)
       unfolding after_call following after_outcome
       follows (Err number) same r = record { outcome = refl; slice = sym (same number refl); stage = still (Err number) refl r }
       follows (Ok Quiet) same r = record { outcome = refl; slice = refl; stage = still (Ok Quiet) refl r }
@@ -196,7 +197,7 @@ module _ (ids : List ℕ) (founder : ℕ) (rest : List ℕ) where
         (runs ids founder present present_laws Some (some_kept ids) events w S.course (c ∷ []) (t, tt)))
 
     -- a delivery on a link where something waits
-    delivers : Claims present ids founder events w → (m : Message) → Mem m (read w).messages → (number : ℕ) → (step_cards w k 3 m.from m.to).outcome ≡ Err number → ⊥
+    delivers : Claims present ids founder events w → (m : Message) → Mem m (read w).messages → (number : Refusal) → (step_cards w k 3 m.from m.to).outcome ≡ Err number → ⊥
     delivers claims m i number e =
         claims.next m i number (sym (stepped (record { operation = 3; x = m.from; y = m.to }) words).outcome ∙ e)
       where

@@ -7,6 +7,7 @@ use Rattle.lists.specs.Basics.{when◌then◌else◌, Mem, All}
 use Rattle.protocol.specs.declared.Card.{Card}
 use Rattle.protocol.specs.declared.Message.{Message}
 use Rattle.protocol.specs.declared.Answer.TheVariants.{Quiet}
+use Rattle.protocol.specs.declared.refusal.Refusal.{Refusal}
 use Rattle.protocol.specs.Outcomes.{Outcome}
 use Rattle.std.specs.Prelude.{Err, Ok}
 use Rattle.protocol.specs.Record.{most_nodes, read}
@@ -156,7 +157,7 @@ pub record CardClaims (ids : List ℕ) (founder : ℕ) (bare : List ℕ) (alone 
   pub same : w ≡ record_after present bare alone
   -- (f) Demand 3's claims hold of them; and of its last one also this: a next deliver with cards is refused no more than one without.
   pub claims : Claims present ids founder (step_events events) w
-  pub next : (m : Message) → Mem m (read w).messages → (number : ℕ) → (step_cards w k 3 m.from m.to).outcome ≡ Err number → ⊥
+  pub next : (m : Message) → Mem m (read w).messages → (number : Refusal) → (step_cards w k 3 m.from m.to).outcome ≡ Err number → ⊥
 
 -- Of every slice that was made with its ring.
 unfoldable pub Custody : Type 0

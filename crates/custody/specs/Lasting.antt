@@ -14,7 +14,7 @@ use Rattle.protocol.specs.declared.Answer.{Answer}
 use Rattle.protocol.specs.declared.Answer.TheVariants.{Quiet, Found, Entered, Gone, JoinTurnedAway, LeaveTurnedAway, Joined, Left}
 use Rattle.protocol.specs.declared.Route.{Route}
 use Rattle.protocol.specs.declared.Route.TheVariants.{Own, To}
-use Rattle.protocol.specs.declared.Decision.{Decision}
+use Rattle.protocol.specs.Outcomes.{Decided}
 use Rattle.protocol.specs.declared.Decision.TheVariants.{Reply, Send}
 use Rattle.std.specs.Prelude.{Err, Ok}
 use Rattle.protocol.specs.Names.{INSIDE}
@@ -43,12 +43,12 @@ Strikes (Joined hub) = ⊥
 Strikes (Left hub) = ⊥
 
 -- where a decision strikes off, the receiver is in state 2 afterwards
-abbrev Mild : Decision → Type 0
+abbrev Mild : Decided → Type 0
 Mild (Err k) = Unit {0}
 Mild (Ok (Reply v a)) = Strikes a → v.state ≡ INSIDE
 Mild (Ok (Send v n a)) = Strikes a → v.state ≡ INSIDE
 
-if_else : (b : Bool) (x : Decision) → (T b → Mild x) → Mild (when b then x else Err NotExpected)
+if_else : (b : Bool) (x : Decided) → (T b → Mild x) → Mild (when b then x else Err NotExpected)
 if_else b x f = choose Mild b x (Err NotExpected) f (λ _. tt)
 
 module _ (h : Row) (m : Message) where
@@ -78,7 +78,7 @@ module _ (h : Row) (m : Message) where
       (by 9 _ _ (if_else _ _ (λ _ s. absurd s)) (by 10 _ _ (if_else _ _ (λ _ s. absurd s)) (by 11 _ _ leave_point_lem
       (by 12 _ _ (if_else _ _ (λ _ s. absurd s)) (by 13 _ _ (if_else _ _ (λ _ s. absurd s)) (by 14 _ _ (if_else _ _ (λ _ s. absurd s)) tt)))))))))))))
     where
-      by : (k : ℕ) (x y : Decision) → Mild x → Mild y → Mild (when nat_eq m.kind k then x else y)
+      by : (k : ℕ) (x y : Decided) → Mild x → Mild y → Mild (when nat_eq m.kind k then x else y)
       by k x y f g = choose Mild (nat_eq m.kind k) x y (λ _. f) (λ _. g)
 
 -- a step's result: where it strikes off, some hub is inside
@@ -87,7 +87,7 @@ Lasts (refused k) = Unit {0}
 Lasts (accepted a s) = Strikes a → (t : ℕ) × ((row s t).state ≡ INSIDE)
 
 module _ (s : State) where
-  decided : (j t : ℕ) → t < count s → (d : Decision) → Mild d → Lasts (conclude (without_message s j) t d)
+  decided : (j t : ℕ) → t < count s → (d : Decided) → Mild d → Lasts (conclude (without_message s j) t d)
   unfolding conclude
   decided j t l (Err k) x = tt
   decided j t l (Ok (Reply v a)) x = λ g. (t, ap (λ r. r.state) (get_or-set_same s.rows t v (outside 0) l) ∙ x g)

@@ -67,7 +67,7 @@ module _ (w : List ℕ) (r : Route) (long_enough : T (long w)) (well_formed_lem 
 module _ (members : List ℕ) where
   ask_stays : (w : List ℕ) (hub v : ℕ) → after_outcome members (step_call w 0 hub v).outcome ≡ members
   unfolding after_outcome
-  ask_stays w hub v = ask_cases (λ o. after_outcome members o ≡ members) w hub v (λ k l. refl) (λ ticket. refl) refl
+  ask_stays w hub v = ask_cases (λ o. after_outcome members o ≡ members) w hub v (λ k. refl) (λ ticket. refl) refl
 
   each_stays : (w : List ℕ) (hub : ℕ) (numbers : List ℕ) → members_after members (history present w (map (ask hub) numbers)) ≡ members
   unfolding members_after history

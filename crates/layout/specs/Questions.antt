@@ -10,7 +10,7 @@ use Rattle.lists.specs.Choice.{on_yes, on_no, choose, tested}
 use Rattle.lists.specs.Tests.{T_true, and_left, and_right, and_both}
 use Rattle.protocol.specs.declared.Answer.TheVariants.{Quiet}
 use Rattle.protocol.specs.declared.refusal.Refusal.{Refusal}
-use Rattle.protocol.specs.declared.refusal.Refusal.TheVariants.{IdentifierCount, IdentifierTwice, NoFounder, NotWellFormed, PlacesShort, RecordShort, RouteLong}
+use Rattle.protocol.specs.declared.refusal.Refusal.TheVariants.{RecordShort, NotWellFormed, NoOperation, NoHub, NotInRing, NotOutside, Locked, LastHub, NoMessage, NotExpected, MessagesFull, TicketsUsedUp, IdentifierCount, IdentifierTwice, NoHolder, NoWayRound, OutputShort, NoFounder, NoSheet, IdentifierTooLarge, RoomShort, RevisionLower, PriceDiffers, CardsFull, RouteLong, PlacesShort}
 use Rattle.protocol.specs.Refusals.{number_of}
 use Rattle.protocol.specs.Record.{most_nodes, record_size}
 use Rattle.protocol.specs.Fresh.{fresh}
@@ -99,3 +99,32 @@ batch_both {A} {B} P w numbers out no-a no-b a b refuses asks =
     go true true false v f = refuses RouteLong
     go true false u v f = refuses NotWellFormed
     go false q u v f = refuses RecordShort
+
+-- No refusal has the number 0, which says that there is none.
+pub above_0 : (k : Refusal) → 0 < number_of k
+above_0 RecordShort = omega arith
+above_0 NotWellFormed = omega arith
+above_0 NoOperation = omega arith
+above_0 NoHub = omega arith
+above_0 NotInRing = omega arith
+above_0 NotOutside = omega arith
+above_0 Locked = omega arith
+above_0 LastHub = omega arith
+above_0 NoMessage = omega arith
+above_0 NotExpected = omega arith
+above_0 MessagesFull = omega arith
+above_0 TicketsUsedUp = omega arith
+above_0 IdentifierCount = omega arith
+above_0 IdentifierTwice = omega arith
+above_0 NoHolder = omega arith
+above_0 NoWayRound = omega arith
+above_0 OutputShort = omega arith
+above_0 NoFounder = omega arith
+above_0 NoSheet = omega arith
+above_0 IdentifierTooLarge = omega arith
+above_0 RoomShort = omega arith
+above_0 RevisionLower = omega arith
+above_0 PriceDiffers = omega arith
+above_0 CardsFull = omega arith
+above_0 RouteLong = omega arith
+above_0 PlacesShort = omega arith
