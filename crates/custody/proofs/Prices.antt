@@ -7,6 +7,7 @@ use Rattle.std.proofs.Math.ListN.{length-set, length-map}
 use Rattle.lists.specs.Choice.{tested}
 use Rattle.protocol.specs.declared.Answer.TheVariants.{Quiet, Found, Entered, Gone, JoinTurnedAway, LeaveTurnedAway, Joined, Left}
 use Rattle.protocol.specs.declared.refusal.Refusal.{Refusal}
+use Rattle.protocol.specs.declared.refusal.Refusal.TheVariants.{NotWellFormed, RecordShort}
 use Rattle.protocol.specs.Outcomes.{Outcome}
 use Rattle.std.specs.Prelude.{Err, Ok}
 use Rattle.protocol.specs.Record.{read}
@@ -37,7 +38,7 @@ module _ (w k : List ℕ) where
   asked : (c : CardCall) (rest : CardsCalled) → (Neat k → after rest ≡ prices_then prices c rest.outcome) → after (on_both w k rest) ≡ prices_then prices c (on_both w k rest).outcome
   unfolding on_both both_long
   asked c rest go =
-      tested Right _ _ _ (as_it_was c 1) (λ _. tested Right _ _ _ (as_it_was c 1) (λ l. tested Right _ _ _ (as_it_was c 2) (λ _. tested Right _ _ _ (as_it_was c 2)
+      tested Right _ _ _ (as_it_was c RecordShort) (λ _. tested Right _ _ _ (as_it_was c RecordShort) (λ l. tested Right _ _ _ (as_it_was c NotWellFormed) (λ _. tested Right _ _ _ (as_it_was c NotWellFormed)
       (λ t. go (neat (identifiers (read w)) k (leb→le book_size (length k) l) t)))))
     where
       Right : CardsCalled → Type 0

@@ -8,7 +8,8 @@ use Rattle.lists.specs.Choice.{on_no, tested}
 use Rattle.protocol.specs.declared.Message.{Message}
 use Rattle.protocol.specs.declared.Answer.TheVariants.{Quiet}
 use Rattle.std.specs.Prelude.{Err, Ok}
-use Rattle.protocol.specs.declared.refusal.Refusal.TheVariants.{NotWellFormed, RecordShort}
+use Rattle.protocol.specs.declared.refusal.Refusal.{Refusal}
+use Rattle.protocol.specs.declared.refusal.Refusal.TheVariants.{NoHub, NotWellFormed, RecordShort}
 use Rattle.protocol.specs.Record.{State, outside, words}
 use Rattle.protocol.specs.Fresh.{alone}
 use Rattle.protocol.specs.Kinds.{question}
@@ -78,7 +79,7 @@ code z = refusal z.outcome
 
 pub slices_too_short : founded [] → ⊥
 unfolding code on_both both_long long refusal require when◌then◌else◌
-slices_too_short c = let e = ap code (c.ready (unchanged [] [] 0)) in omega (arith, e)
+slices_too_short c = let e = ap code (c.ready (unchanged [] [] NoHub)) in omega (arith, e)
 
 -- (e) A step that is refused by 2 with cards, and by 1 without them (the record is empty).
 abbrev leaving : Call
@@ -103,7 +104,7 @@ no_place = record { hub = 0; numbers = 7 ∷ []; out = replicate 5 0 }
 abbrev routed : Route → List CardEvent → Type 0
 routed r events = CardClaims two 0 [] (steps (route r ∷ [])) (record { call = route r; outcome = Ok Quiet } ∷ events) [] []
 
-abbrev asked : ℕ → List CardEvent
+abbrev asked : Refusal → List CardEvent
 asked k = record { call = step (ask 0 7); outcome = Err k } ∷ []
 
 pub route_differs_from_asking : routed one_place (asked NotWellFormed) → ⊥
