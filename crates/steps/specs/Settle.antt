@@ -3,26 +3,20 @@ use Rattle.std.specs.Prelude.{◌≡◌, refl, List, ◌++◌, ℕ, ◌+◌, ◌
 use Rattle.std.proofs.Common.{sym, ◌∙◌, ap, arith, length-append, length-take, length-drop, length-set}
 use Rattle.protocol.specs.declared.Row.{Row}
 use Rattle.protocol.specs.declared.Message.{Message}
-use Rattle.std.specs.Prelude.{Err, Ok}
+use Rattle.std.specs.Prelude.{Ok}
 use Rattle.protocol.specs.declared.Decision.{Decision}
 use Rattle.protocol.specs.declared.Decision.TheVariants.{Reply, Send}
 use Rattle.protocol.specs.Record.{most_nodes, most_messages, record_size, State, count, count_in, messages_in, asked_in, words, read, with_row, sent, without_message, ticketed}
 use Rattle.protocol.specs.Step.{conclude}
-use Rattle.protocol.specs.Calls.{Called, turned_down, written}
+use Rattle.protocol.specs.Calls.{Called, written}
 use Rattle.layout.specs.Words.{count_of_read, messages_of_read}
 use Rattle.layout.specs.Form.{Valid, valid_words}
 use Rattle.layout.specs.Edits.{row_put, pushed, removed, put_row_is, push_is, remove_is, ticket_is}
 
--- What a decision at hub t leaves of words whose m messages stay, and of words from whose m messages message j is taken out.
+-- What a decision at hub t leaves of words whose m messages stay.
 unfoldable pub settled : List ℕ → ℕ → ℕ → Decision → Called
-settled w m t (Err k) = turned_down w k
-settled w m t (Ok (Reply h a)) = record { outcome = Ok a; slice = row_put w t h }
-settled w m t (Ok (Send h u a)) = record { outcome = Ok a; slice = pushed (row_put w t h) m u }
-
-unfoldable pub settled_without : List ℕ → ℕ → ℕ → ℕ → Decision → Called
-settled_without w m j t (Err k) = turned_down w k
-settled_without w m j t (Ok (Reply h a)) = record { outcome = Ok a; slice = row_put (removed w m j) t h }
-settled_without w m j t (Ok (Send h u a)) = record { outcome = Ok a; slice = pushed (row_put (removed w m j) t h) (m - 1) u }
+settled w m t (Reply h a) = record { outcome = Ok a; slice = row_put w t h }
+settled w m t (Send h u a) = record { outcome = Ok a; slice = pushed (row_put w t h) m u }
 
 -- the edits, on the words of a state
 module _ (s : State) (tail : List ℕ) (few : count s ≤ most_nodes) where
@@ -39,13 +33,12 @@ module _ (s : State) (tail : List ℕ) (few : count s ≤ most_nodes) where
 
 -- A decision of a command: no message is taken out.
 pub settled_is : (w : List ℕ) → Valid w → (t : ℕ) (d : Decision) → t < count_in w → messages_in w < most_messages
-    → settled w (messages_in w) t d ≡ written w (conclude (read w) t d)
+    → settled w (messages_in w) t d ≡ written w (conclude (read w) t (Ok d))
 unfolding settled conclude written
-settled_is w v t (Err k) lt lm = refl
-settled_is w v t (Ok (Reply h a)) lt lm =
+settled_is w v t (Reply h a) lt lm =
     ap (λ z. record { outcome = Ok a; slice = z })
     (ap (λ z. row_put z t h) (valid_words w v) ∙ put_row_is (read w) (drop record_size w) t h (omega (arith, count_of_read w)))
-settled_is w v t (Ok (Send h u a)) lt lm =
+settled_is w v t (Send h u a) lt lm =
     ap (λ z. record { outcome = Ok a; slice = z })
     (ap (λ z. pushed (row_put z t h) (messages_in w) u) (valid_words w v)
     ∙ ap (λ z. pushed (row_put (words (read w) ++ drop record_size w) t h) z u) (sym (messages_of_read w))
@@ -58,15 +51,14 @@ without w v j l =
     ∙ ap (λ z. removed (words (read w) ++ drop record_size w) z j) (sym (messages_of_read w))
     ∙ remove_is (read w) (drop record_size w) (omega (arith, v.nodes, count_of_read w)) j (omega (arith, messages_of_read w)) (omega (arith, v.waiting, messages_of_read w))
 
--- A decision of a delivery: message j is taken out.
+-- A decision of a delivery: message j is taken out first.
 pub settled_without_is : (w : List ℕ) → Valid w → (j t : ℕ) (d : Decision) → j < messages_in w → t < count_in w
-    → settled_without w (messages_in w) j t d ≡ written w (conclude (without_message (read w) j) t d)
-unfolding settled_without conclude written
-settled_without_is w v j t (Err k) lj lt = refl
-settled_without_is w v j t (Ok (Reply h a)) lj lt =
+    → settled (removed w (messages_in w) j) (messages_in w - 1) t d ≡ written w (conclude (without_message (read w) j) t (Ok d))
+unfolding settled conclude written
+settled_without_is w v j t (Reply h a) lj lt =
     ap (λ z. record { outcome = Ok a; slice = z })
     (ap (λ z. row_put z t h) (without w v j lj) ∙ put_row_is (without_message (read w) j) (drop record_size w) t h (omega (arith, count_of_read w)))
-settled_without_is w v j t (Ok (Send h u a)) lj lt =
+settled_without_is w v j t (Send h u a) lj lt =
     ap (λ z. record { outcome = Ok a; slice = z })
     (ap (λ z. pushed (row_put z t h) (messages_in w - 1) u) (without w v j lj)
     ∙ ap (λ z. pushed (row_put (words (without_message (read w) j) ++ drop record_size w) t h) z u)

@@ -5,7 +5,7 @@ ghost use Rattle.protocol.specs.Step.{join as join_spec, leave as leave_spec, de
 ghost use Rattle.protocol.specs.Calls.{written};
 ghost use Rattle.layout.specs.Form.{Valid};
 
-use crate::apply::{settle, settle_without};
+use crate::apply::settle;
 use lists::both;
 use protocol::form::{MESSAGE_WORDS, MESSAGES_AT, MOST_MESSAGES};
 use protocol::{Answer, Decision, Refusal, kinds, states};
@@ -31,12 +31,12 @@ pub(crate) fn join(w: &mut [u32], x: u32, y: u32) -> Result<Answer, Refusal>
     if m < MOST_MESSAGES {
         h.state = states::JOINING;
         h.lock = 1;
-        return settle(
+        return Ok(settle(
             w,
             m,
             x,
-            Ok(Decision::Send(h, note(kinds::JOIN, x, y, x), Answer::Quiet)),
-        );
+            Decision::Send(h, note(kinds::JOIN, x, y, x), Answer::Quiet),
+        ));
     }
     Err(Refusal::MessagesFull)
 }
@@ -63,12 +63,12 @@ pub(crate) fn leave(w: &mut [u32], x: u32) -> Result<Answer, Refusal>
     if m < MOST_MESSAGES {
         h.state = states::WANTING_TO_LEAVE;
         h.lock = 1;
-        return settle(
+        return Ok(settle(
             w,
             m,
             x,
-            Ok(Decision::Send(h, note(kinds::LEAVEREQ, x, h.succ, 0), Answer::Quiet)),
-        );
+            Decision::Send(h, note(kinds::LEAVEREQ, x, h.succ, 0), Answer::Quiet),
+        ));
     }
     Err(Refusal::MessagesFull)
 }
@@ -89,7 +89,9 @@ pub(crate) fn deliver(w: &mut [u32], x: u32, y: u32) -> Result<Answer, Refusal>
         let h = record::row_of(w, y);
         let p = record::identifier_of(w, h.pred);
         let g = record::row_of(w, u.a);
-        return settle_without(w, m, j, y, handlers::handle(p, h, g, u));
+        let d = handlers::handle(p, h, g, u)?;
+        record::remove(w, m, j);
+        return Ok(settle(w, m - 1, y, d));
     }
     Err(Refusal::NoMessage)
 }

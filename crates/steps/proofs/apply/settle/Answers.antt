@@ -2,10 +2,6 @@
 use Rattle.steps.specs.Settle.{settled}
 use Rattle.steps.proofs.apply.settle.Goals as goal
 
-pub returns-in-Err : goal.returns-in-Err
-unfolding settled
-returns-in-Err c = simp c.in-Err.is
-
 pub returns-in-Reply : goal.returns-in-Reply
 unfolding settled
 returns-in-Reply c = simp (c.put_row.ensures, c.in-Reply.is)

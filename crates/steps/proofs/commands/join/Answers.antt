@@ -7,7 +7,7 @@ use Rattle.protocol.specs.Routing.{in_ring}
 use Rattle.protocol.specs.Kinds.{note, with_state, with_lock}
 use Rattle.protocol.specs.Names.{JOIN}
 use Rattle.protocol.specs.declared.Decision.TheVariants.{Send}
-use Rattle.std.specs.Prelude.{Ok}
+
 use Rattle.protocol.specs.declared.Answer.TheVariants.{Quiet}
 use Rattle.protocol.specs.Calls.{written}
 use mathlib.Core.Path.{◌≡◌, ◌∙◌, ap, sym}
@@ -48,10 +48,10 @@ returns-then-m-lt-MOST_MESSAGES c =
     let h = c.row_of-h in
     let nodes = sym c.both.ensures ∙ c.if-not-both.false in
     let room = c.if-m-lt-MOST_MESSAGES.true in
-    let sends : Ok (Send (with_lock (with_state h.result 1) 1) c.note.result Quiet)
-    ≡ Ok (Send (with_lock (with_state (row (read w) a.x) 1) 1) (note JOIN a.x a.y a.x) Quiet =)
-    ap (λ u. Ok (Send (with_lock (with_state h.result 1) 1) u Quiet)) c.note.ensures
-    ∙ ap (λ z. Ok (Send (with_lock (with_state z 1) 1) (note JOIN a.x a.y a.x) Quiet)) h.ensures in
+    let sends : Send (with_lock (with_state h.result 1) 1) c.note.result Quiet
+    ≡ Send (with_lock (with_state (row (read w) a.x) 1) 1) (note JOIN a.x a.y a.x) Quiet =
+    ap (λ u. Send (with_lock (with_state h.result 1) 1) u Quiet) c.note.ensures
+    ∙ ap (λ z. Send (with_lock (with_state z 1) 1) (note JOIN a.x a.y a.x) Quiet) h.ensures in
     ap (written w)
     (join_sent w a.x a.y nodes (sym (ap (λ h. h.state) h.ensures) ∙ c.if-h-ne-OUTSIDE.false) (ap in_ring (sym c.row_of.ensures) ∙ sym c.in_ring.ensures ∙ c.if-not-in_ring.false) room)
     ∙ sym (ap (settled w (messages_in w) a.x) sends ∙ settled_is w c.requires a.x _ (first_node w a.x a.y nodes) room)

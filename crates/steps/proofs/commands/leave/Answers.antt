@@ -6,7 +6,7 @@ use Rattle.protocol.specs.Routing.{in_ring}
 use Rattle.protocol.specs.Kinds.{note, with_state, with_lock}
 use Rattle.protocol.specs.Names.{LEAVEREQ}
 use Rattle.protocol.specs.declared.Decision.TheVariants.{Send}
-use Rattle.std.specs.Prelude.{Ok}
+
 use Rattle.protocol.specs.declared.Answer.TheVariants.{Quiet}
 use Rattle.protocol.specs.Calls.{written}
 use mathlib.Core.Path.{◌≡◌, ◌∙◌, ap, sym}
@@ -50,10 +50,10 @@ returns-then-m-lt-MOST_MESSAGES c =
     let ring = ap in_ring (sym h.ensures) ∙ sym c.in_ring.ensures ∙ c.if-not-in_ring.false in
     let free = sym (ap (λ z. z.lock) h.ensures) ∙ c.if-h-ne0.false in
     let room = c.if-m-lt-MOST_MESSAGES.true in
-    let sends : Ok (Send (with_lock (with_state h.result 3) 1) c.note.result Quiet)
-    ≡ Ok (Send (with_lock (with_state (row (read w) a.x) 3) 1) (note LEAVEREQ a.x (row (read w) a.x).succ 0) Quiet =)
-    ap (λ u. Ok (Send (with_lock (with_state h.result 3) 1) u Quiet)) c.note.ensures
-    ∙ ap (λ z. Ok (Send (with_lock (with_state z 3) 1) (note LEAVEREQ a.x z.succ 0) Quiet)) h.ensures in
+    let sends : Send (with_lock (with_state h.result 3) 1) c.note.result Quiet
+    ≡ Send (with_lock (with_state (row (read w) a.x) 3) 1) (note LEAVEREQ a.x (row (read w) a.x).succ 0) Quiet =
+    ap (λ u. Send (with_lock (with_state h.result 3) 1) u Quiet) c.note.ensures
+    ∙ ap (λ z. Send (with_lock (with_state z 3) 1) (note LEAVEREQ a.x z.succ 0) Quiet) h.ensures in
     ap (written w) (leave_sent w a.x c.if-w-x.false ring free (λ e. c.if-h-x.false (ap (λ z. z.succ) h.ensures ∙ e)) room)
     ∙ sym (ap (settled w (messages_in w) a.x) sends ∙ settled_is w c.requires a.x _ c.if-w-x.false room)
     ∙ c.settle.ensures
