@@ -4,13 +4,16 @@ use Rattle.std.proofs.Math.Path.{ap}
 use Rattle.std.proofs.Common.{sym, ◌∙◌, append_assoc, append-nil, arith, add-one, take-suc, drop-drop, le-leb}
 use Rattle.std.proofs.Math.Seq.{take-length, length-take-le}
 use Rattle.std.proofs.lemmas.Bool.{lt-leb}
+use borrow.Rule.Slice.PartMut.{put_mid}
 use Rattle.lists.specs.Basics.{when◌then◌else◌, flat}
 use Rattle.lists.specs.Choice.{on_yes, on_no}
 use Rattle.lists.specs.Blocks.{flat_append, length_flat}
 use Rattle.lists.specs.Splice.{splice, splice_at}
+use Rattle.protocol.specs.declared.Answer.{Answer}
 use Rattle.protocol.specs.Outcomes.{Outcome}
 use Rattle.std.specs.Prelude.{Err, Ok}
 use Rattle.protocol.specs.declared.Answer.TheVariants.{Quiet, Found, Entered, Gone, JoinTurnedAway, LeaveTurnedAway, Joined, Left}
+use Rattle.protocol.specs.declared.refusal.Refusal.{Refusal}
 use Rattle.protocol.specs.declared.refusal.Refusal.TheVariants.{NotWellFormed, PlacesShort, RecordShort, RouteLong}
 use Rattle.protocol.specs.Record.{record_size, read}
 use Rattle.protocol.specs.WellFormed.{well_formed}
@@ -51,18 +54,23 @@ each_valid w v hub (u ∷ numbers) =
     let r = each_valid (step_call w 0 hub u).slice k.valid hub numbers in
     record { valid = r.valid; length = r.length ∙ k.length }
 
--- a place has six words
+-- an answer has five
+pub answer_size : (a : Answer) → length (answer_words a) ≡ 5
+unfolding answer_words
+answer_size Quiet = refl
+answer_size (Found hub number ticket hops) = refl
+answer_size (Entered hub) = refl
+answer_size (Gone hub) = refl
+answer_size (JoinTurnedAway hub) = refl
+answer_size (LeaveTurnedAway hub) = refl
+answer_size (Joined hub) = refl
+answer_size (Left hub) = refl
+
+-- and a place six words
 pub place_size_lem : (o : Outcome) → length (place_words o) ≡ place_size
-unfolding place_words answer_words
+unfolding place_words
 place_size_lem (Err k) = refl
-place_size_lem (Ok Quiet) = refl
-place_size_lem (Ok (Found hub number ticket hops)) = refl
-place_size_lem (Ok (Entered hub)) = refl
-place_size_lem (Ok (Gone hub)) = refl
-place_size_lem (Ok (JoinTurnedAway hub)) = refl
-place_size_lem (Ok (LeaveTurnedAway hub)) = refl
-place_size_lem (Ok (Joined hub)) = refl
-place_size_lem (Ok (Left hub)) = refl
+place_size_lem (Ok a) = ap suc (answer_size a)
 
 -- an answer's five words, one by one
 pub word_by_word : (l : List ℕ) → length l ≡ 5 → get_or l 0 0 ∷ get_or l 1 0 ∷ get_or l 2 0 ∷ get_or l 3 0 ∷ get_or l 4 0 ∷ [] ≡ l
@@ -73,6 +81,12 @@ word_by_word (a ∷ b ∷ c ∷ []) e = absurd (omega arith)
 word_by_word (a ∷ b ∷ c ∷ d ∷ []) e = absurd (omega arith)
 word_by_word (a ∷ b ∷ c ∷ d ∷ f ∷ []) e = refl
 word_by_word (a ∷ b ∷ c ∷ d ∷ f ∷ g ∷ l) e = absurd (omega arith)
+
+-- what a part from a on, as long as vs, puts back where it became vs
+pub put_part : (w vs : List ℕ) (a k : ℕ) → k ≡ length vs → put_mid a k w vs ≡ splice w a vs
+unfolding splice
+put_part w vs a k e =
+    ap (λ z. take a w ++ (vs ++ z)) (drop-drop k a w ∙ ap (λ n. drop (a + n) w) e) ∙ sym (append_assoc (take a w) vs (drop (a + length vs) w))
 
 -- the output with these outcomes written from its first place on
 abbrev pub placed : List ℕ → List Outcome → ℕ → List ℕ
@@ -146,7 +160,7 @@ module _ (w : List ℕ) (hub : ℕ) (numbers out : List ℕ) (i : ℕ) (l : i < 
   next_output = ap (λ (y : Turned). y.output) (sym said ∙ turned_next)
 
 -- The questions of the call, in the words' terms.
-module _ {A : Type 0} (w numbers out : List ℕ) (no_result : ℕ → A) (rest : A) where
+module _ {A : Type 0} (w numbers out : List ℕ) (no_result : Refusal → A) (rest : A) where
   abbrev call : A
   call = on_batch w numbers out no_result rest
 

@@ -11,6 +11,7 @@ use Rattle.lists.specs.Search.{first_cong}
 use Rattle.lists.specs.Splice.{splice}
 use Rattle.protocol.specs.declared.Card.{Card}
 use Rattle.protocol.specs.declared.Answer.TheVariants.{Quiet}
+use Rattle.protocol.specs.declared.refusal.Refusal.TheVariants.{CardsFull, PriceDiffers, RevisionLower}
 use Rattle.std.specs.Prelude.{Ok}
 use Rattle.protocol.specs.Cards.{most_cards, book_size, card_start, Book, card_words, book_words, cards_in, marks_in, card_from, read_book, no_card, place, Offered, declined, kept, renewed, offered, CardsCalled, unchanged, put_book, offer_written}
 use Rattle.cardlayout.specs.Books.{Neat, read_fits, book_read, count_of_book, put_card_is, push_card_is}
@@ -59,18 +60,18 @@ module _ (w k : List ℕ) (j : ℕ) (old c : Card) where
   offer_higher l out e = ap (λ z. offer_written w k (when z then kept (set (read_book k).cards j c) else low)) (lt-ltb _ _ l) ∙ ap (λ z. record { outcome = Ok Quiet; slice = w; cards = z }) (sym e)
     where
       low : Offered
-      low = require (nat_eq old.revision c.revision) (declined 22) (require (nat_eq old.price c.price) (declined 23) (kept (read_book k).cards))
+      low = require (nat_eq old.revision c.revision) (declined RevisionLower) (require (nat_eq old.price c.price) (declined PriceDiffers) (kept (read_book k).cards))
 
   module _ (l : c.revision ≤ old.revision) where
-    lower : given ≡ offer_written w k (require (nat_eq old.revision c.revision) (declined 22) (require (nat_eq old.price c.price) (declined 23) (kept (read_book k).cards)))
+    lower : given ≡ offer_written w k (require (nat_eq old.revision c.revision) (declined RevisionLower) (require (nat_eq old.price c.price) (declined PriceDiffers) (kept (read_book k).cards)))
     unfolding renewed when◌then◌else◌
-    lower = ap (λ z. offer_written w k (when z then kept (set (read_book k).cards j c) else require (nat_eq old.revision c.revision) (declined 22) (require (nat_eq old.price c.price) (declined 23) (kept (read_book k).cards)))) (le-ltb _ _ l)
+    lower = ap (λ z. offer_written w k (when z then kept (set (read_book k).cards j c) else require (nat_eq old.revision c.revision) (declined RevisionLower) (require (nat_eq old.price c.price) (declined PriceDiffers) (kept (read_book k).cards)))) (le-ltb _ _ l)
 
-    pub offer_22 : (old.revision ≡ c.revision → ⊥) → given ≡ unchanged w k 22
+    pub offer_22 : (old.revision ≡ c.revision → ⊥) → given ≡ unchanged w k RevisionLower
     unfolding offer_written
     offer_22 ne = lower ∙ ap (offer_written w k) (on_no _ _ _ (ne_eqb _ _ ne))
 
-    pub offer_23 : old.revision ≡ c.revision → (old.price ≡ c.price → ⊥) → given ≡ unchanged w k 23
+    pub offer_23 : old.revision ≡ c.revision → (old.price ≡ c.price → ⊥) → given ≡ unchanged w k PriceDiffers
     unfolding offer_written
     offer_23 e ne = lower ∙ ap (offer_written w k) (on_yes _ _ _ (eq-eqb _ _ e) ∙ on_no _ _ _ (ne_eqb _ _ ne))
 
@@ -93,16 +94,16 @@ module _ (w k : List ℕ) (c : Card) (j : ℕ) (ej : j ≡ first (λ i. nat_eq (
       ∙ ap (λ z. when z then renewed (read_book k).cards j (get_or (read_book k).cards j no_card) c else new) (lt-ltb j (length (read_book k).cards) (omega (arith, count_of_book k))))
     where
       new : Offered
-      new = require (nat_lt (length (read_book k).cards) most_cards) (declined 24) (kept ((read_book k).cards ++ (c ∷ [])))
+      new = require (nat_lt (length (read_book k).cards) most_cards) (declined CardsFull) (kept ((read_book k).cards ++ (c ∷ [])))
 
   module _ (l : cards_in k ≤ j) where
-    new_one : offered (read_book k).cards c ≡ require (nat_lt (length (read_book k).cards) most_cards) (declined 24) (kept ((read_book k).cards ++ (c ∷ [])))
+    new_one : offered (read_book k).cards c ≡ require (nat_lt (length (read_book k).cards) most_cards) (declined CardsFull) (kept ((read_book k).cards ++ (c ∷ [])))
     unfolding offered when◌then◌else◌
     new_one =
-        ap (λ z. when nat_lt z (length (read_book k).cards) then renewed (read_book k).cards z (get_or (read_book k).cards z no_card) c else require (nat_lt (length (read_book k).cards) most_cards) (declined 24) (kept ((read_book k).cards ++ (c ∷ [])))) at_place
-        ∙ ap (λ z. when z then renewed (read_book k).cards j (get_or (read_book k).cards j no_card) c else require (nat_lt (length (read_book k).cards) most_cards) (declined 24) (kept ((read_book k).cards ++ (c ∷ [])))) (le-ltb j (length (read_book k).cards) (omega (arith, count_of_book k)))
+        ap (λ z. when nat_lt z (length (read_book k).cards) then renewed (read_book k).cards z (get_or (read_book k).cards z no_card) c else require (nat_lt (length (read_book k).cards) most_cards) (declined CardsFull) (kept ((read_book k).cards ++ (c ∷ [])))) at_place
+        ∙ ap (λ z. when z then renewed (read_book k).cards j (get_or (read_book k).cards j no_card) c else require (nat_lt (length (read_book k).cards) most_cards) (declined CardsFull) (kept ((read_book k).cards ++ (c ∷ [])))) (le-ltb j (length (read_book k).cards) (omega (arith, count_of_book k)))
 
-    pub offer_24 : most_cards ≤ cards_in k → offer_written w k (offered (read_book k).cards c) ≡ unchanged w k 24
+    pub offer_24 : most_cards ≤ cards_in k → offer_written w k (offered (read_book k).cards c) ≡ unchanged w k CardsFull
     unfolding offer_written
     offer_24 m = ap (offer_written w k) (new_one ∙ on_no _ _ _ (le-ltb (length (read_book k).cards) most_cards (omega (arith, count_of_book k))))
 

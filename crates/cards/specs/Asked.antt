@@ -4,6 +4,7 @@ use Rattle.std.proofs.Common.{sym, ◌∙◌, ap, subst, arith, length-append, l
 use Rattle.std.proofs.Math.Decide.{dec_lt}
 use Rattle.std.proofs.Math.ListN.{get_or-append}
 use Rattle.protocol.specs.declared.Answer.{Answer}
+use Rattle.protocol.specs.declared.refusal.Refusal.{Refusal}
 use Rattle.protocol.specs.Outcomes.{Outcome}
 use Rattle.std.specs.Prelude.{Err, Ok}
 use Rattle.protocol.specs.Record.{record_size, count, read, words}
@@ -33,7 +34,7 @@ pub put_back : (w slice saved : List ℕ) → saved ≡ take record_size w → d
 put_back w slice saved e q = ap (λ z. z ++ drop record_size slice) e ∙ ap (λ z. take record_size w ++ z) q ∙ take-append-drop record_size w
 
 -- the hub that an answer moves is one of the record's
-pub refused_answered : {number : ℕ} {a : Answer} → Err number ≡ Ok a → ⊥
+pub refused_answered : {number : Refusal} {a : Answer} → Err number ≡ Ok a → ⊥
 refused_answered e = subst is_refused e tt
   where
     is_refused : Outcome → Type 0
@@ -80,7 +81,7 @@ restored_all w saved now l e f g =
         ∙ sym (get_or-append-add saved (drop (length saved) w) (i - length saved) 0) ∙ ap (λ z. get_or (saved ++ drop (length saved) w) z 0) q
 
 -- a refused step has written nothing
-pub refused_kept : (w slice : List ℕ) (o : Outcome) (number : ℕ) (r : Result) → written w r ≡ record { outcome = o; slice = slice } → o ≡ Err number → slice ≡ w
+pub refused_kept : (w slice : List ℕ) (o : Outcome) (number : Refusal) (r : Result) → written w r ≡ record { outcome = o; slice = slice } → o ≡ Err number → slice ≡ w
 unfolding written
 refused_kept w slice o number (refused z) e g = sym (ap (λ c. c.slice) e)
 refused_kept w slice o number (went a s) e g = absurd (refused_answered (sym (ap (λ c. c.outcome) e ∙ g)))

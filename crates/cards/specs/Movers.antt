@@ -12,8 +12,9 @@ use Rattle.protocol.specs.declared.Answer.{Answer}
 use Rattle.protocol.specs.declared.Answer.TheVariants.{Quiet, Found, Entered, Gone, JoinTurnedAway, LeaveTurnedAway, Joined, Left}
 use Rattle.protocol.specs.declared.Route.{Route}
 use Rattle.protocol.specs.declared.Route.TheVariants.{Own, To}
-use Rattle.protocol.specs.declared.Decision.{Decision}
+use Rattle.protocol.specs.Outcomes.{Decided}
 use Rattle.protocol.specs.declared.Decision.TheVariants.{Reply, Send}
+use Rattle.protocol.specs.declared.refusal.Refusal.TheVariants.{NotExpected}
 use Rattle.std.specs.Prelude.{Err, Ok}
 use Rattle.protocol.specs.Record.{State, count, row, without_message, message, no_message}
 use Rattle.protocol.specs.Routing.{in_ring}
@@ -46,13 +47,13 @@ bound_more n m (Joined hub) l b = tt
 bound_more n m (Left hub) l b = tt
 
 module _ (n : ℕ) where
-  abbrev Mild : Decision → Type 0
+  abbrev Mild : Decided → Type 0
   Mild (Err k) = Unit {0}
   Mild (Ok (Reply v a)) = Bound n a
   Mild (Ok (Send v u a)) = Bound n a
 
-  if_else : (b : Bool) (x : Decision) → Mild x → Mild (when b then x else Err 10)
-  if_else b x f = choose Mild b x (Err 10) (λ _. f) (λ _. tt)
+  if_else : (b : Bool) (x : Decided) → Mild x → Mild (when b then x else Err NotExpected)
+  if_else b x f = choose Mild b x (Err NotExpected) (λ _. f) (λ _. tt)
 
   module _ (h : Row) (asked : ℕ) (m : Message) (M : MessageForm n asked m) where
     lookup_routed_lem : (r : Route) → Mild (lookup_routed h m r)
@@ -80,7 +81,7 @@ module _ (n : ℕ) where
         (by 9 _ _ (λ _. if_else _ _ tt) (by 10 _ _ (λ _. if_else _ _ tt) (by 11 _ _ (λ _. if_else _ _ M.from)
         (by 12 _ _ (λ _. if_else _ _ tt) (by 13 _ _ (λ _. if_else _ _ tt) (by 14 _ _ (λ _. if_else _ _ tt) tt)))))))))))))
       where
-        by : (k : ℕ) (x y : Decision) → (m.kind ≡ k → Mild x) → Mild y → Mild (when nat_eq m.kind k then x else y)
+        by : (k : ℕ) (x y : Decided) → (m.kind ≡ k → Mild x) → Mild y → Mild (when nat_eq m.kind k then x else y)
         by k x y f g = choose Mild (nat_eq m.kind k) x y (λ t. f (eqb→eq m.kind k t)) (λ _. g)
 
 -- a step's result
@@ -92,7 +93,7 @@ module _ (s : State) (f : Form s) where
   abbrev n : ℕ
   n = count s
 
-  decided : (j t : ℕ) (d : Decision) → Mild n d → Bounded n (conclude (without_message s j) t d)
+  decided : (j t : ℕ) (d : Decided) → Mild n d → Bounded n (conclude (without_message s j) t d)
   unfolding conclude
   decided j t (Err k) x = tt
   decided j t (Ok (Reply v a)) x = x

@@ -6,6 +6,7 @@ use Rattle.std.proofs.lemmas.List.{replicate-append-replicate, length-replicate}
 use Rattle.protocol.specs.declared.Answer.{Answer}
 use Rattle.protocol.specs.Outcomes.{Outcome}
 use Rattle.std.specs.Prelude.{Err, Ok}
+use Rattle.protocol.specs.declared.refusal.Refusal.{Refusal}
 use Rattle.protocol.specs.declared.refusal.Refusal.TheVariants.{RecordShort}
 use Rattle.protocol.specs.Record.{most_nodes, record_size}
 use Rattle.protocol.specs.Calls.{written, fresh_by_call}
@@ -17,14 +18,14 @@ use Rattle.cards.specs.Asked.{refused_answered}
 
 -- What a fresh call leaves where it refuses, and where it answers.
 module _ (w ids : List ℕ) (founder : ℕ) where
-  fresh_kept : (number : ℕ) → (fresh_by_call w ids founder).outcome ≡ Err number → (fresh_by_call w ids founder).slice ≡ w
+  fresh_kept : (number : Refusal) → (fresh_by_call w ids founder).outcome ≡ Err number → (fresh_by_call w ids founder).slice ≡ w
   unfolding written
   fresh_kept number =
-      fresh_cases w ids founder (λ z. z.outcome ≡ Err number → z.slice ≡ w) (λ k l m e. refl) (λ a e. absurd (refused_answered (sym e)))
+      fresh_cases w ids founder (λ z. z.outcome ≡ Err number → z.slice ≡ w) (λ k m e. refl) (λ a e. absurd (refused_answered (sym e)))
 
   pub fresh_below : (o : Outcome) (slice : List ℕ) (a : Answer) → fresh_by_call w ids founder ≡ record { outcome = o; slice = slice } → o ≡ Ok a → founder < most_nodes
   fresh_below o slice a e g =
-      fresh_cases w ids founder (λ z. z.outcome ≡ Ok a → founder < most_nodes) (λ k l m q. absurd (refused_answered q))
+      fresh_cases w ids founder (λ z. z.outcome ≡ Ok a → founder < most_nodes) (λ k m q. absurd (refused_answered q))
       (λ s q. omega (arith, s.below, s.few)) (ap (λ z. z.outcome) e ∙ g)
 
 module _ (w k ids : List ℕ) (founder : ℕ) where
@@ -41,7 +42,7 @@ module _ (w k ids : List ℕ) (founder : ℕ) where
     unfolding fresh_by_cards
     rest = long_rest w k _ l m ∙ ap (λ z. with_new_book w k founder z.slice z.outcome) e
 
-    pub new_refused : (number : ℕ) → o ≡ Err number → fresh_by_cards w k ids founder ≡ record { outcome = Err number; slice = slice; cards = k }
+    pub new_refused : (number : Refusal) → o ≡ Err number → fresh_by_cards w k ids founder ≡ record { outcome = Err number; slice = slice; cards = k }
     unfolding with_new_book
     new_refused number g =
         rest ∙ ap (with_new_book w k founder slice) g

@@ -1,39 +1,17 @@
 -- `ask_one`: the question's own meaning, with its outcome in its place. Assumes nothing.
-use mathlib.Core.Path.{ap, ◌∙◌}
-use Prim.Native.Nat.{◌-◌, ◌+◌, ◌*◌, ◌≤◌}
-use native.Mathlib.Omega.{arith}
-use lib.ListN.{length}
-use Rattle.lists.specs.Splice.{put_tail}
-use Rattle.std.specs.Prelude.{Err, Ok}
-use Rattle.protocol.specs.Batch.{place_size, place_words}
-use Rattle.batches.specs.Each.{place_size_lem, turn_is}
-use borrow.Author.Rules.{rules}
+use Rattle.std.proofs.Common.{ap, sym, ◌∙◌, ◌+◌, ◌-◌, ◌*◌, ◌≡◌, length, arith}
+use borrow.Rule.Slice.PartMut.{put_mid}
+use Rattle.protocol.specs.Batch.{place_words}
+use Rattle.batches.specs.Each.{place_size_lem, put_part, turn_is}
 use Rattle.batches.proofs.asks.ask_one.Goals as goal
 
-pub returns-in-Err : goal.returns-in-Err
-unfolding place_words
-returns-in-Err c =
+pub returns : goal.returns
+returns c =
     let a = c.args in
-    let out = a.outcomes.now in
-    let i = length a.numbers.now - a.left in
-    let z = c.ask.new.w in
-    let o = Err c.in-Err.k in
-    let fits : place_size * i + length (place_words o) ≤ length out = omega (arith, place_size_lem o, c.requires.1, c.requires.2, c.requires.3) in (
-      search rules,
-      rw (c.put_refusal.ensures, put_tail out (place_words o) (place_size * i) fits)
-          (turn_is a.w.now c.requires.0 a.node a.numbers.now out i _ (c.ask.ensures ∙ ap (λ x. record { outcome = x; slice = z }) c.in-Err.is)),
-    )
-
-pub returns-in-Ok : goal.returns-in-Ok
-unfolding place_words
-returns-in-Ok c =
-    let a = c.args in
-    let out = a.outcomes.now in
-    let i = length a.numbers.now - a.left in
-    let z = c.ask.new.w in
-    let o = Ok c.in-Ok.a in
-    let fits : place_size * i + length (place_words o) ≤ length out = omega (arith, place_size_lem o, c.requires.1, c.requires.2, c.requires.3) in (
-      search rules,
-      rw (c.put_answer.ensures, c.answer_words-answer.ensures, put_tail out (place_words o) (place_size * i) fits)
-          (turn_is a.w.now c.requires.0 a.node a.numbers.now out i _ (c.ask.ensures ∙ ap (λ x. record { outcome = x; slice = z }) c.in-Ok.is)),
-    )
+    let p = c.place_words-place in
+    let put = c.copy_from_slice in
+    let n : 6 * a.i + 6 - 6 * a.i ≡ 6 = omega arith in
+    turn_is a.w.now c.requires.0 a.node a.numbers.now a.outcomes.now a.i _ c.ask.ensures
+    ∙ ap (λ z. record { slice = c.ask.new.w; output = z })
+    (sym (ap (put_mid (6 * a.i) (6 * a.i + 6 - 6 * a.i) a.outcomes.now) (put.ensures.after ∙ p.ensures)
+    ∙ put_part a.outcomes.now (place_words c.ask.result) (6 * a.i) (6 * a.i + 6 - 6 * a.i) (n ∙ sym (place_size_lem c.ask.result))))

@@ -6,6 +6,7 @@ use lib.ListN.{set, drop}
 use borrow.Author.Tests.{eq-eqb, ne_eqb}
 use Rattle.lists.specs.Choice.{on_yes, on_no}
 use Rattle.protocol.specs.declared.Answer.TheVariants.{Gone}
+use Rattle.protocol.specs.declared.refusal.Refusal.TheVariants.{NotWellFormed}
 use Rattle.std.specs.Prelude.{Err, Ok}
 use Rattle.protocol.specs.Record.{read}
 use Rattle.protocol.specs.WellFormed.{identifiers}
@@ -20,7 +21,7 @@ returns-then-others-eq0 c = let a = c.args in
     let k = a.k.now in
     let o = c.others in
     λ w₀ e r l. on_no _ _ _ (any_law (set (marks_in k) a.h 0) o.result (off_bits (identifiers (read w₀)) a.names.now k r a.h l) (others_law (marks_in k) a.h o.result o.ensures) ∙ ap not (eq-eqb _ _ c.if-others-eq0.true))
-    ∙ ap (λ z. record { outcome = Err 2; slice = z; cards = k }) (e ∙ ap (λ z. a.saved.now ++ drop z a.w.now) (sym c.requires.2) ∙ sym c.restore.ensures)
+    ∙ ap (λ z. record { outcome = Err NotWellFormed; slice = z; cards = k }) (e ∙ ap (λ z. a.saved.now ++ drop z a.w.now) (sym c.requires.2) ∙ sym c.restore.ensures)
 
 pub returns : goal.returns
 unfolding following
