@@ -11,6 +11,7 @@ use Rattle.lists.specs.Members.{all_mem, mem_at}
 use Rattle.lists.specs.Blocks.{flat_split, length_front}
 use Rattle.protocol.specs.declared.Answer.{Answer}
 use Rattle.protocol.specs.declared.Answer.TheVariants.{Quiet, Found, Entered, Gone, JoinTurnedAway, LeaveTurnedAway, Joined, Left}
+use Rattle.protocol.specs.Refusals.{number_of}
 use Rattle.protocol.specs.Outcomes.{Outcome}
 use Rattle.std.specs.Prelude.{Err, Ok}
 use Rattle.protocol.specs.declared.Tally.{Tally}
@@ -19,7 +20,7 @@ use Rattle.protocol.specs.Answers.{answer_words, kind_of, count_of, raised_at, c
 use Rattle.protocol.specs.Calls.{step_call}
 use Rattle.protocol.specs.Batch.{ask_each, place_size, place_words, BatchCalled, unasked, batch_written, batch_call, batch_outcomes, counted_all}
 use Rattle.layout.specs.Questions.{batch_both}
-use Rattle.layout.specs.Asks.{ask_cases}
+use Rattle.layout.specs.Questions.{above_0}
 use Rattle.batches.specs.Each.{length_asked, place_size_lem}
 
 -- How many places a call with n numbers has written.
@@ -44,11 +45,6 @@ pub counted_next : (t : Tally) (o : List ℕ) (i : ℕ) → raised_at (count_at 
 unfolding counted_places
 counted_next t o i = ap (counted_places t o) (sym (add-one i))
 
--- A place tells a refusal from an answer, where no refusal has the number 0.
-Told : Outcome → Type 0
-Told (Err k) = 0 < k
-Told (Ok a) = Unit {0}
-
 kind_first : (a : Answer) (rest : List ℕ) → get_or (answer_words a ++ rest) 0 0 ≡ kind_of a
 unfolding answer_words kind_of
 kind_first Quiet rest = refl
@@ -60,13 +56,14 @@ kind_first (LeaveTurnedAway hub) rest = refl
 kind_first (Joined hub) rest = refl
 kind_first (Left hub) rest = refl
 
-place_counts : (o : Outcome) → Told o → (p rest : List ℕ) (at : ℕ) → length p ≡ at → count_at (p ++ (place_words o ++ rest)) at ≡ count_of o
-unfolding count_at count_of place_words Told when◌then◌else◌
-place_counts (Err k) l p rest at e =
+-- A place tells a refusal from an answer, since no refusal has the number 0.
+place_counts : (o : Outcome) (p rest : List ℕ) (at : ℕ) → length p ≡ at → count_at (p ++ (place_words o ++ rest)) at ≡ count_of o
+unfolding count_at count_of place_words when◌then◌else◌
+place_counts (Err k) p rest at e =
     let q : List ℕ = 0 ∷ 0 ∷ 0 ∷ 0 ∷ 0 ∷ rest in
-    ap (λ z. when nat_eq z 0 then get_or (p ++ (k ∷ q)) (at + 1) 0 else REFUSAL) (get_or_at p k q 0 at e)
-    ∙ ap (λ z. when z then get_or (p ++ (k ∷ q)) (at + 1) 0 else REFUSAL) (ne_eqb k 0 (λ z. omega arith))
-place_counts (Ok a) l p rest at e =
+    ap (λ z. when nat_eq z 0 then get_or (p ++ (number_of k ∷ q)) (at + 1) 0 else REFUSAL) (get_or_at p (number_of k) q 0 at e)
+    ∙ ap (λ z. when z then get_or (p ++ (number_of k ∷ q)) (at + 1) 0 else REFUSAL) (ne_eqb (number_of k) 0 (λ z. omega (arith, z, above_0 k)))
+place_counts (Ok a) p rest at e =
     let q : List ℕ = answer_words a ++ rest in
     ap (λ z. when nat_eq z 0 then get_or (p ++ (0 ∷ q)) (at + 1) 0 else REFUSAL) (get_or_at p 0 q 0 at e)
     ∙ ap (λ z. get_or (p ++ (0 ∷ q)) (z + 1) 0) (sym e) ∙ get_or-append-add p (0 ∷ q) 1 0 ∙ kind_first a rest
@@ -78,7 +75,7 @@ counted_last t [] o = refl
 counted_last t (x ∷ outcomes) o = counted_last (counted t x) outcomes o
 
 -- The places of these outcomes, counted, are the outcomes counted.
-module _ (t : Tally) (outcomes : List Outcome) (told : All Told outcomes) (rest : List ℕ) where
+module _ (t : Tally) (outcomes : List Outcome) (rest : List ℕ) where
   abbrev o : List ℕ
   o = flat place_words outcomes ++ rest
 
@@ -91,7 +88,7 @@ module _ (t : Tally) (outcomes : List Outcome) (told : All Told outcomes) (rest 
       ∙ ap (λ z. count_at z (place_size * i))
       (append_assoc (flat place_words (take i outcomes)) (place_words (get_or outcomes i none) ++ flat place_words (drop (suc i) outcomes)) rest
       ∙ ap (λ z. flat place_words (take i outcomes) ++ z) (append_assoc (place_words (get_or outcomes i none)) (flat place_words (drop (suc i) outcomes)) rest))
-      ∙ place_counts (get_or outcomes i none) (all_mem Told outcomes told (get_or outcomes i none) (mem_at outcomes i none l)) (flat place_words (take i outcomes)) (flat place_words (drop (suc i) outcomes) ++ rest) (place_size * i)
+      ∙ place_counts (get_or outcomes i none) (flat place_words (take i outcomes)) (flat place_words (drop (suc i) outcomes) ++ rest) (place_size * i)
       (length_front place_words place_size place_size_lem outcomes i (omega arith))
 
   up_to : (i : ℕ) → i ≤ length outcomes → counted_places t o i ≡ counted_all t (take i outcomes)
@@ -106,17 +103,11 @@ module _ (t : Tally) (outcomes : List Outcome) (told : All Told outcomes) (rest 
   places_counted : counted_places t o (length outcomes) ≡ counted_all t outcomes
   places_counted = up_to (length outcomes) (omega arith) ∙ ap (counted_all t) (take-length outcomes)
 
--- A question's refusal has a number above 0.
-each_told : (w : List ℕ) (hub : ℕ) (numbers : List ℕ) → All Told (ask_each w hub numbers).outcomes
-unfolding ask_each Told
-each_told w hub [] = tt
-each_told w hub (v ∷ numbers) = (ask_cases Told w hub v (λ k l. l) (λ ticket. tt) tt, each_told (step_call w 0 hub v).slice hub numbers)
-
 each_counted : (t : Tally) (w : List ℕ) (hub : ℕ) (numbers rest : List ℕ)
     → counted_places t (flat place_words (ask_each w hub numbers).outcomes ++ rest) (length numbers) ≡ counted_all t (ask_each w hub numbers).outcomes
 each_counted t w hub numbers rest =
     ap (counted_places t (flat place_words (ask_each w hub numbers).outcomes ++ rest)) (sym (length_asked w hub numbers))
-    ∙ places_counted t (ask_each w hub numbers).outcomes (each_told w hub numbers) rest
+    ∙ places_counted t (ask_each w hub numbers).outcomes rest
 
 -- What the call says of its tally, refused or not: what stands in the places that it wrote, counted, is what it asked.
 module _ (w : List ℕ) (hub : ℕ) (numbers out : List ℕ) where

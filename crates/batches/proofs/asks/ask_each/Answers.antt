@@ -1,5 +1,5 @@
 -- `ask_each`: record and output are those that the numbers before it leave. Assumes nothing.
-use Rattle.std.proofs.Common.{rules, sym, subst, length, take, arith}
+use Rattle.std.proofs.Common.{rules, sym, subst, take}
 use Rattle.protocol.specs.Batch.{ask_each}
 use Rattle.layout.specs.Form.{Valid}
 use Rattle.batches.specs.Each.{each_valid, all_written, next_slice, next_output}

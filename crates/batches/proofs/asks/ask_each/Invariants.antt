@@ -1,5 +1,5 @@
 -- `ask_each`: record and output are those that the numbers so far leave. Assumes nothing.
-use Rattle.std.proofs.Common.{◌≡◌, ◌≤◌, length}
+use Rattle.std.proofs.Common.{◌≡◌}
 use Rattle.batches.specs.Each.{placed, up_to}
 use Rattle.batches.proofs.asks.ask_each.Given as goal
 

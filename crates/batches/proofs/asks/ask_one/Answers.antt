@@ -1,5 +1,5 @@
 -- `ask_one`: the question's own meaning, with its outcome in its place. Assumes nothing.
-use Rattle.std.proofs.Common.{ap, sym, ◌∙◌, ◌+◌, ◌-◌, ◌*◌, ◌≡◌, length, arith}
+use Rattle.std.proofs.Common.{ap, sym, ◌∙◌, ◌+◌, ◌-◌, ◌*◌, ◌≡◌, arith}
 use borrow.Rule.Slice.PartMut.{put_mid}
 use Rattle.protocol.specs.Batch.{place_words}
 use Rattle.batches.specs.Each.{place_size_lem, put_part, turn_is}

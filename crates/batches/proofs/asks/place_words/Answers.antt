@@ -1,7 +1,6 @@
 -- `place_words`: each case is that of the definition. Assumes nothing.
 use Rattle.std.proofs.Common.{ap, sym, ◌∙◌, ◌∷◌, length}
 use Rattle.protocol.specs.Batch.{place_words}
-use Rattle.protocol.specs.Answers.{answer_words}
 use Rattle.batches.specs.Each.{answer_size, word_by_word}
 use Rattle.batches.proofs.asks.place_words.Goals as goal
 
