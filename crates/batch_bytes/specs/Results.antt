@@ -8,6 +8,7 @@ use Rattle.lists.specs.Blocks.{length_table, length_flat}
 use Rattle.protocol.specs.declared.Answer.TheVariants.{Quiet}
 use Rattle.std.specs.Prelude.{Ok}
 use Rattle.protocol.specs.declared.refusal.Refusal.TheVariants.{NotWellFormed, PlacesShort, RecordShort, RouteLong}
+use Rattle.protocol.specs.Refusals.{number_of}
 use Rattle.protocol.specs.Record.{record_size}
 use Rattle.protocol.specs.WellFormed.{well_formed}
 use Rattle.protocol.specs.Answers.{refusal}

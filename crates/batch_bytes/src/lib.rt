@@ -3,6 +3,7 @@
 #![tactic(auto)]
 
 ghost use Rattle.std.specs.Prelude.{◌≡◌};
+ghost use Rattle.protocol.specs.Answers.{refusal};
 ghost use Rattle.protocol.specs.Batch.{batch_bytes};
 
 use protocol::form::{MOST_QUESTIONS, PLACE_WORDS, RECORD_BYTES};
@@ -15,22 +16,22 @@ const PLACE_BYTES: usize = 24;
 // A place for each of the most questions.
 const PLACES_WORDS: usize = 384;
 
-pub fn ask(words: &mut [u8], node: u32, numbers: &[u8], outcomes: &mut [u8]) -> u32
-    ensures { batch_bytes words.old node numbers.now outcomes.old ≡ record { code = result; bytes = words.new; output = outcomes.new } }
+pub fn ask(words: &mut [u8], node: u32, numbers: &[u8], outcomes: &mut [u8]) -> Result<(), Refusal>
+    ensures { batch_bytes words.old node numbers.now outcomes.old ≡ record { code = refusal result; bytes = words.new; output = outcomes.new } }
 {
     if words.len() < RECORD_BYTES {
-        return Refusal::RecordShort;
+        return Err(Refusal::RecordShort);
     }
     let mut w = loaded(&words[..]);
     if !wellformed::well_formed(&w) {
-        return Refusal::NotWellFormed;
+        return Err(Refusal::NotWellFormed);
     }
     let n = numbers.len() / 4;
     if MOST_QUESTIONS < n {
-        return Refusal::RouteLong;
+        return Err(Refusal::RouteLong);
     }
     if outcomes.len() / PLACE_BYTES < n {
-        return Refusal::PlacesShort;
+        return Err(Refusal::PlacesShort);
     }
     let mut asked = [0u32; MOST_QUESTIONS];
     load(numbers, &mut asked, n);
@@ -39,5 +40,5 @@ pub fn ask(words: &mut [u8], node: u32, numbers: &[u8], outcomes: &mut [u8]) -> 
     save(words, &w);
     let end = PLACE_WORDS * n;
     save(outcomes, &places[..end]);
-    0
+    Ok(())
 }

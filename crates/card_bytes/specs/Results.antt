@@ -10,6 +10,7 @@ use Rattle.protocol.specs.declared.Answer.TheVariants.{Quiet}
 use Rattle.protocol.specs.Outcomes.{Outcome}
 use Rattle.std.specs.Prelude.{Err, Ok}
 use Rattle.protocol.specs.declared.refusal.Refusal.TheVariants.{IdentifierCount, OutputShort, RecordShort}
+use Rattle.protocol.specs.Refusals.{number_of}
 use Rattle.protocol.specs.Record.{most_nodes, record_size, words}
 use Rattle.protocol.specs.Fresh.{fresh}
 use Rattle.protocol.specs.Answers.{refusal, outcome_words}
@@ -35,18 +36,18 @@ module _ (b : List ℕ) (n : ℕ) where
   first_enough l = omega (arith, length-take n (words_of b), words_length b)
 
 module _ (b book out : List ℕ) (operation x y : ℕ) where
-  pub step_cards_17 : length out < 20 → step_cards_bytes b book operation x y out ≡ record { code = OutputShort; bytes = b; book = book; output = out }
+  pub step_cards_17 : length out < 20 → step_cards_bytes b book operation x y out ≡ record { code = number_of OutputShort; bytes = b; book = book; output = out }
   unfolding step_cards_bytes
   step_cards_17 h = on_no _ _ _ (lt-leb 20 (length out) h)
 
-  pub step_cards_1 : 20 ≤ length out → length b < 4 * record_size → step_cards_bytes b book operation x y out ≡ record { code = RecordShort; bytes = b; book = book; output = out }
+  pub step_cards_1 : 20 ≤ length out → length b < 4 * record_size → step_cards_bytes b book operation x y out ≡ record { code = number_of RecordShort; bytes = b; book = book; output = out }
   unfolding step_cards_bytes step_cards carried_cards refusal outcome_words bytes_after over
   step_cards_1 h l =
       on_yes _ _ _ (le-leb 20 (length out) h)
       ∙ ap (carried_cards b book out) (both_1 (record_of b) (book_of book) _ (first_short b record_size l))
 
   pub step_cards_short : 20 ≤ length out → 4 * record_size ≤ length b → length book < 4 * book_size
-      → step_cards_bytes b book operation x y out ≡ record { code = RecordShort; bytes = b; book = book; output = out }
+      → step_cards_bytes b book operation x y out ≡ record { code = number_of RecordShort; bytes = b; book = book; output = out }
   unfolding step_cards_bytes step_cards carried_cards refusal outcome_words bytes_after over
   step_cards_short h l m =
       on_yes _ _ _ (le-leb 20 (length out) h)
@@ -63,11 +64,11 @@ module _ (b book out : List ℕ) (operation x y : ℕ) where
       ∙ ap (carried_cards b book out) e
 
 module _ (b book : List ℕ) (machine revision price : ℕ) where
-  pub offer_1 : length b < 4 * record_size → offer_bytes b book machine revision price ≡ record { code = RecordShort; book = book }
+  pub offer_1 : length b < 4 * record_size → offer_bytes b book machine revision price ≡ record { code = number_of RecordShort; book = book }
   unfolding offer_bytes offer_call taken refusal bytes_after
   offer_1 l = ap (taken book) (both_1 (record_of b) (book_of book) _ (first_short b record_size l))
 
-  pub offer_short : 4 * record_size ≤ length b → length book < 4 * book_size → offer_bytes b book machine revision price ≡ record { code = RecordShort; book = book }
+  pub offer_short : 4 * record_size ≤ length b → length book < 4 * book_size → offer_bytes b book machine revision price ≡ record { code = number_of RecordShort; book = book }
   unfolding offer_bytes offer_call taken refusal bytes_after
   offer_short l m = ap (taken book) (both_cards_1 (record_of b) (book_of book) _ (first_enough b record_size l) (first_short book book_size m))
 
@@ -82,12 +83,12 @@ module _ (b book : List ℕ) (machine revision price : ℕ) where
 
 -- Fresh with cards gives the same on any other words, where these are no longer than record and cards.
 module _ (b book ids : List ℕ) (f : ℕ) where
-  pub fresh_cards_1 : length b < 4 * record_size → fresh_by_cards_bytes b book ids f ≡ record { code = RecordShort; bytes = b; book = book }
+  pub fresh_cards_1 : length b < 4 * record_size → fresh_by_cards_bytes b book ids f ≡ record { code = number_of RecordShort; bytes = b; book = book }
   unfolding fresh_by_cards_bytes founded_cards refusal bytes_after
   fresh_cards_1 l = ap (founded_cards b book) (new_1 (record_of b) (book_of book) (words_of ids) f (first_short b record_size l))
 
   module _ (l : 4 * record_size ≤ length b) where
-    pub fresh_cards_short : length book < 4 * book_size → fresh_by_cards_bytes b book ids f ≡ record { code = RecordShort; bytes = b; book = book }
+    pub fresh_cards_short : length book < 4 * book_size → fresh_by_cards_bytes b book ids f ≡ record { code = number_of RecordShort; bytes = b; book = book }
     unfolding fresh_by_cards_bytes founded_cards refusal bytes_after
     fresh_cards_short m = ap (founded_cards b book) (new_cards_1 (record_of b) (book_of book) (words_of ids) f (first_enough b record_size l) (first_short book book_size m))
 
@@ -106,7 +107,7 @@ module _ (b book ids : List ℕ) (f : ℕ) where
           on_yes _ _ _ (long_yes (record_of b) (first_enough b record_size l))
           ∙ on_no _ _ _ (rw (lt-leb n most_nodes (omega (arith, words_length ids)), le-leb 1 n (omega (arith, words_length ids))))
 
-      pub fresh_cards_13 : most_nodes < length ids / 4 → fresh_by_cards_bytes b book ids f ≡ record { code = IdentifierCount; bytes = b; book = book }
+      pub fresh_cards_13 : most_nodes < length ids / 4 → fresh_by_cards_bytes b book ids f ≡ record { code = number_of IdentifierCount; bytes = b; book = book }
       unfolding fresh_by_cards_bytes founded_cards refusal bytes_after with_new_book
       fresh_cards_13 h = ap (founded_cards b book) (both_long_lem ∙ ap (λ z. with_new_book (record_of b) (book_of book) f z.slice z.outcome) (many h))
 

@@ -2,7 +2,8 @@
 ghost use Rattle.std.specs.Prelude.{◌≡◌};
 ghost use Rattle.protocol.specs.Fresh.{founder_of};
 ghost use Rattle.protocol.specs.Bytes.{words_of};
-ghost use Rattle.protocol.specs.CardBytes.{step_cards_bytes, offer_bytes, fresh_cards_bytes, fresh_by_cards_bytes};
+ghost use Rattle.protocol.specs.Answers.{refusal};
+ghost use Rattle.protocol.specs.CardBytes.{step_cards_bytes, offer_bytes, fresh_by_cards_bytes};
 
 use crate::results::{finish_fresh, finish_offer, finish_step};
 use protocol::form::{BOOK_BYTES, BOOK_WORDS, RECORD_BYTES, RECORD_WORDS};
@@ -17,17 +18,17 @@ pub fn step(
     x: u32,
     y: u32,
     out: &mut [u8],
-) -> u32
-    ensures { step_cards_bytes words.old book.old operation x y out.old ≡ record { code = result; bytes = words.new; book = book.new; output = out.new } }
+) -> Result<(), Refusal>
+    ensures { step_cards_bytes words.old book.old operation x y out.old ≡ record { code = refusal result; bytes = words.new; book = book.new; output = out.new } }
 {
     if out.len() < 20 {
-        return Refusal::OutputShort;
+        return Err(Refusal::OutputShort);
     }
     if words.len() < RECORD_BYTES {
-        return Refusal::RecordShort;
+        return Err(Refusal::RecordShort);
     }
     if book.len() < BOOK_BYTES {
-        return Refusal::RecordShort;
+        return Err(Refusal::RecordShort);
     }
     let mut w = loaded(&words[..]);
     let mut k = loaded_book(&book[..]);
@@ -36,14 +37,14 @@ pub fn step(
 }
 
 // A card offered to the ring in the lent bytes, which are only read.
-pub fn offer(words: &[u8], book: &mut [u8], machine: u32, revision: u32, price: u32) -> u32
-    ensures { offer_bytes words.now book.old machine revision price ≡ record { code = result; book = book.new } }
+pub fn offer(words: &[u8], book: &mut [u8], machine: u32, revision: u32, price: u32) -> Result<(), Refusal>
+    ensures { offer_bytes words.now book.old machine revision price ≡ record { code = refusal result; book = book.new } }
 {
     if words.len() < RECORD_BYTES {
-        return Refusal::RecordShort;
+        return Err(Refusal::RecordShort);
     }
     if book.len() < BOOK_BYTES {
-        return Refusal::RecordShort;
+        return Err(Refusal::RecordShort);
     }
     let w = loaded(words);
     let mut k = loaded_book(&book[..]);
@@ -52,37 +53,23 @@ pub fn offer(words: &[u8], book: &mut [u8], machine: u32, revision: u32, price: 
 }
 
 // A ring founded in the lent bytes with its card slice, whoever is to found it. Neither is loaded, since an accepted call writes both whole.
-fn found(words: &mut [u8], book: &mut [u8], identifiers: &[u8], founder: Option<u32>) -> u32
-    ensures { fresh_by_cards_bytes words.old book.old identifiers.now (founder_of founder (words_of identifiers.now)) ≡ record { code = result; bytes = words.new; book = book.new } }
+pub fn fresh(words: &mut [u8], book: &mut [u8], identifiers: &[u8], founder: Option<u32>) -> Result<(), Refusal>
+    ensures { fresh_by_cards_bytes words.old book.old identifiers.now (founder_of founder (words_of identifiers.now)) ≡ record { code = refusal result; bytes = words.new; book = book.new } }
 {
     if words.len() < RECORD_BYTES {
-        return Refusal::RecordShort;
+        return Err(Refusal::RecordShort);
     }
     if book.len() < BOOK_BYTES {
-        return Refusal::RecordShort;
+        return Err(Refusal::RecordShort);
     }
     let n = identifiers.len() / 4;
     if 64 < n {
-        return Refusal::IdentifierCount;
+        return Err(Refusal::IdentifierCount);
     }
     let mut ids = [0u32; 64];
     load(identifiers, &mut ids, n);
     let mut w = [0u32; RECORD_WORDS];
     let mut k = [0u32; BOOK_WORDS];
-    let r = cards::found(&mut w, &mut k, &ids[..n], founder);
+    let r = cards::fresh(&mut w, &mut k, &ids[..n], founder);
     finish_fresh(words, book, &w, &k, r)
-}
-
-// By the node with the smallest identifier.
-pub fn fresh(words: &mut [u8], book: &mut [u8], identifiers: &[u8]) -> u32
-    ensures { fresh_cards_bytes words.old book.old identifiers.now ≡ record { code = result; bytes = words.new; book = book.new } }
-{
-    found(words, book, identifiers, None)
-}
-
-// By the node that the caller names.
-pub fn fresh_by(words: &mut [u8], book: &mut [u8], identifiers: &[u8], founder: u32) -> u32
-    ensures { fresh_by_cards_bytes words.old book.old identifiers.now founder ≡ record { code = result; bytes = words.new; book = book.new } }
-{
-    found(words, book, identifiers, Some(founder))
 }

@@ -5,4 +5,4 @@
 mod calls;
 mod results;
 
-pub use calls::{fresh, fresh_by, offer, step};
+pub use calls::{fresh, offer, step};

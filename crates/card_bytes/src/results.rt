@@ -1,5 +1,6 @@
-// What a call with cards hands back: the number of the refusal and nothing written, or 0 and the words.
+// What a call with cards hands back: the refusal and nothing written, or the words.
 ghost use Rattle.std.specs.Prelude.{◌≡◌, List, ℕ, ◌*◌, ◌≤◌, length};
+ghost use Rattle.protocol.specs.Answers.{refusal};
 ghost use Rattle.protocol.specs.CardBytes.{carried_cards, taken, founded_cards};
 
 use answers::answer_words;
@@ -14,34 +15,26 @@ pub(crate) fn finish_step(
     w: &[u32],
     k: &[u32],
     r: Result<Answer, Refusal>,
-) -> u32
+) -> Result<(), Refusal>
     requires { (4 * length w.now ≤ length words.old) × (4 * length k.now ≤ length book.old) × (20 ≤ length out.old) }
-    ensures { carried_cards words.old book.old out.old (record { outcome = r; slice = w.now; cards = k.now }) ≡ record { code = result; bytes = words.new; book = book.new; output = out.new } }
+    ensures { carried_cards words.old book.old out.old (record { outcome = r; slice = w.now; cards = k.now }) ≡ record { code = refusal result; bytes = words.new; book = book.new; output = out.new } }
 {
-    match r {
-        Err(n) => n,
-        Ok(a) => {
-            save(words, w);
-            save(book, k);
-            let answer = answer_words(a);
-            save(out, &answer);
-            0
-        }
-    }
+    let a = r?;
+    save(words, w);
+    save(book, k);
+    let answer = answer_words(a);
+    save(out, &answer);
+    Ok(())
 }
 
 // An offer that leaves the words k, whatever the record is. Its answer is quiet, and has nothing to tell.
-pub(crate) fn finish_offer(book: &mut [u8], k: &[u32], r: Result<Answer, Refusal>) -> u32
+pub(crate) fn finish_offer(book: &mut [u8], k: &[u32], r: Result<Answer, Refusal>) -> Result<(), Refusal>
     requires { 4 * length k.now ≤ length book.old }
-    ensures { (w : List ℕ) → taken book.old (record { outcome = r; slice = w; cards = k.now }) ≡ record { code = result; book = book.new } }
+    ensures { (w : List ℕ) → taken book.old (record { outcome = r; slice = w; cards = k.now }) ≡ record { code = refusal result; book = book.new } }
 {
-    match r {
-        Err(n) => n,
-        Ok(_) => {
-            save(book, k);
-            0
-        }
-    }
+    r?;
+    save(book, k);
+    Ok(())
 }
 
 // A fresh call that leaves the words w and k. Its answer is quiet too.
@@ -51,16 +44,12 @@ pub(crate) fn finish_fresh(
     w: &[u32],
     k: &[u32],
     r: Result<Answer, Refusal>,
-) -> u32
+) -> Result<(), Refusal>
     requires { (4 * length w.now ≤ length words.old) × (4 * length k.now ≤ length book.old) }
-    ensures { founded_cards words.old book.old (record { outcome = r; slice = w.now; cards = k.now }) ≡ record { code = result; bytes = words.new; book = book.new } }
+    ensures { founded_cards words.old book.old (record { outcome = r; slice = w.now; cards = k.now }) ≡ record { code = refusal result; bytes = words.new; book = book.new } }
 {
-    match r {
-        Err(n) => n,
-        Ok(_) => {
-            save(words, w);
-            save(book, k);
-            0
-        }
-    }
+    r?;
+    save(words, w);
+    save(book, k);
+    Ok(())
 }

@@ -7,5 +7,5 @@ mod new_book;
 mod perform;
 mod undo;
 
-pub use new_book::{found, fresh, fresh_by};
+pub use new_book::fresh;
 pub use perform::step;

@@ -2,7 +2,7 @@
 ghost use Rattle.std.specs.Prelude.{◌≡◌, ◌≤◌, ◌<◌, length};
 ghost use Rattle.protocol.specs.Record.{most_nodes};
 ghost use Rattle.protocol.specs.Fresh.{founder_of};
-ghost use Rattle.protocol.specs.Cards.{book_size, new_book, put_book, fresh_cards, fresh_by_cards};
+ghost use Rattle.protocol.specs.Cards.{book_size, new_book, put_book, fresh_by_cards};
 
 use founding::founding_node;
 use protocol::form::{BOOK_WORDS, MARKS_AT, RECORD_WORDS};
@@ -18,7 +18,7 @@ fn write_new(k: &mut [u32], node: usize)
 }
 
 // A ring founded with its card slice, whoever is to found it. Fresh asks all its questions before it writes, so a refusal changes no word of either.
-pub fn found(w: &mut [u32], k: &mut [u32], identifiers: &[u32], founder: Option<u32>) -> Result<Answer, Refusal>
+pub fn fresh(w: &mut [u32], k: &mut [u32], identifiers: &[u32], founder: Option<u32>) -> Result<Answer, Refusal>
     ensures { fresh_by_cards w.old k.old identifiers.now (founder_of founder identifiers.now) ≡ record { outcome = result; slice = w.new; cards = k.new } }
 {
     if w.len() < RECORD_WORDS {
@@ -27,26 +27,7 @@ pub fn found(w: &mut [u32], k: &mut [u32], identifiers: &[u32], founder: Option<
     if k.len() < BOOK_WORDS {
         return Err(Refusal::RecordShort);
     }
-    let r = founding::found(w, identifiers, founder);
-    match r {
-        Err(number) => Err(number),
-        Ok(a) => {
-            write_new(k, founding_node(founder, identifiers));
-            Ok(a)
-        }
-    }
-}
-
-// A ring with its cards, founded by the node with the smallest identifier.
-pub fn fresh(w: &mut [u32], k: &mut [u32], identifiers: &[u32]) -> Result<Answer, Refusal>
-    ensures { fresh_cards w.old k.old identifiers.now ≡ record { outcome = result; slice = w.new; cards = k.new } }
-{
-    found(w, k, identifiers, None)
-}
-
-// The same, founded by the node that the caller names.
-pub fn fresh_by(w: &mut [u32], k: &mut [u32], identifiers: &[u32], founder: u32) -> Result<Answer, Refusal>
-    ensures { fresh_by_cards w.old k.old identifiers.now founder ≡ record { outcome = result; slice = w.new; cards = k.new } }
-{
-    found(w, k, identifiers, Some(founder))
+    let a = founding::fresh(w, identifiers, founder)?;
+    write_new(k, founding_node(founder, identifiers));
+    Ok(a)
 }

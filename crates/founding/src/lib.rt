@@ -1,11 +1,11 @@
-// The fresh calls: a ring is founded in a lent slice of words, from a list of identifiers.
+// The fresh call: a ring is founded in a lent slice of words, from a list of identifiers.
 #![tactic(auto)]
 
 mod founder;
 mod writing;
 
 ghost use Rattle.std.specs.Prelude.{◌≡◌};
-ghost use Rattle.protocol.specs.Calls.{fresh_call, fresh_by_call};
+ghost use Rattle.protocol.specs.Calls.{fresh_by_call};
 ghost use Rattle.protocol.specs.Fresh.{founder_of};
 
 use crate::writing::write_fresh;
@@ -16,22 +16,9 @@ use protocol::{Answer, Refusal};
 use wellformed::repeated;
 pub use writing::clear;
 
-// A ring founded by the node with the smallest identifier, wherever it stands in the list.
-pub fn fresh(w: &mut [u32], identifiers: &[u32]) -> Result<Answer, Refusal>
-    ensures { fresh_call w.old identifiers.now ≡ record { outcome = result; slice = w.new } }
-{
-    found(w, identifiers, None)
-}
-
-// A ring founded by the node that the caller names.
-pub fn fresh_by(w: &mut [u32], identifiers: &[u32], founder: u32) -> Result<Answer, Refusal>
-    ensures { fresh_by_call w.old identifiers.now founder ≡ record { outcome = result; slice = w.new } }
-{
-    found(w, identifiers, Some(founder))
-}
-
-// Both in one. The first question that is answered no decides. All of them are asked before any word is written, so a refusal changes none.
-pub fn found(w: &mut [u32], identifiers: &[u32], founder: Option<u32>) -> Result<Answer, Refusal>
+// A ring founded by the node that the caller names, or else by the one with the smallest identifier, wherever it stands in the list. The first
+// question that is answered no decides. All of them are asked before any word is written, so a refusal changes none.
+pub fn fresh(w: &mut [u32], identifiers: &[u32], founder: Option<u32>) -> Result<Answer, Refusal>
     ensures { fresh_by_call w.old identifiers.now (founder_of founder identifiers.now) ≡ record { outcome = result; slice = w.new } }
 {
     if w.len() < RECORD_WORDS {

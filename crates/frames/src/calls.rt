@@ -6,7 +6,7 @@ ghost use Rattle.protocol.specs.Frames.{identifiers as identifiers_spec, line_ca
 use crate::digits::read8;
 use crate::printing::{outcome_line, refusal_line};
 use crate::reading::decode;
-use founding::fresh_by;
+use founding::fresh;
 use protocol::{Answer, Frame, Line, Refusal, refusals};
 use steps::step;
 
@@ -31,7 +31,7 @@ pub fn fresh_ring(w: &mut [u32], line: &[u8], count: usize) -> Result<Answer, Re
     ensures { fresh_by_call w.old (identifiers_spec line.now count) 0 ≡ record { outcome = result; slice = w.new } }
 {
     let ids = identifiers(line, count);
-    fresh_by(w, &ids[..count], 0)
+    fresh(w, &ids[..count], Some(0))
 }
 
 // One line, without its LF, on the record's words: what is printed for it, and the words after it. Every line and every slice are taken.

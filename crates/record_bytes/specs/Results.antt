@@ -13,11 +13,12 @@ use Rattle.lists.specs.Blocks.{length_table}
 use Rattle.protocol.specs.Outcomes.{Outcome}
 use Rattle.protocol.specs.declared.Answer.TheVariants.{Quiet}
 use Rattle.protocol.specs.declared.refusal.Refusal.TheVariants.{IdentifierCount, OutputShort, RecordShort}
+use Rattle.protocol.specs.Refusals.{number_of}
 use Rattle.protocol.specs.Record.{most_nodes, most_messages, record_size, count, words}
 use Rattle.protocol.specs.Fresh.{fresh}
 use Rattle.protocol.specs.Step.{accepted}
 use Rattle.std.specs.Prelude.{Err}
-use Rattle.protocol.specs.Answers.{refusal, outcome_words, owner_refusal, owner_words}
+use Rattle.protocol.specs.Answers.{refusal, outcome_words, number_words}
 use Rattle.protocol.specs.Calls.{turned_down, written, step_call, fresh_by_call, owner_call}
 use Rattle.protocol.specs.Bytes.{Byte, words_of, over, bytes_after, carried, fresh_carried, step_bytes, fresh_by_bytes, told, owner_bytes}
 use Rattle.layout.specs.Words.{length_words}
@@ -36,11 +37,11 @@ unfolding fresh
 fresh_quiet ids f = omega arith
 
 module _ (b out : List ℕ) (operation x y : ℕ) where
-  pub step_17 : length out < 20 → step_bytes b operation x y out ≡ record { code = OutputShort; bytes = b; output = out }
+  pub step_17 : length out < 20 → step_bytes b operation x y out ≡ record { code = number_of OutputShort; bytes = b; output = out }
   unfolding step_bytes
   step_17 h = on_no _ _ _ (lt-leb 20 (length out) h)
 
-  pub step_1 : 20 ≤ length out → length b < 4 * record_size → step_bytes b operation x y out ≡ record { code = RecordShort; bytes = b; output = out }
+  pub step_1 : 20 ≤ length out → length b < 4 * record_size → step_bytes b operation x y out ≡ record { code = number_of RecordShort; bytes = b; output = out }
   unfolding step_bytes step_call carried refusal outcome_words bytes_after over
   step_1 h l =
       on_yes _ _ _ (le-leb 20 (length out) h)
@@ -60,11 +61,11 @@ module _ (b out : List ℕ) (operation x y : ℕ) where
       ∙ carried_first b s record_size bytes e out o
 
 module _ (b ids : List ℕ) (f : ℕ) where
-  pub fresh_1 : length b < 4 * record_size → fresh_by_bytes b ids f ≡ record { code = RecordShort; bytes = b }
+  pub fresh_1 : length b < 4 * record_size → fresh_by_bytes b ids f ≡ record { code = number_of RecordShort; bytes = b }
   unfolding fresh_by_bytes fresh_by_call fresh_carried refusal bytes_after
   fresh_1 l = ap (fresh_carried b) (on_no _ _ _ (long_no (words_of b) (omega (arith, words_length b))))
 
-  pub fresh_13 : 4 * record_size ≤ length b → most_nodes < length ids / 4 → fresh_by_bytes b ids f ≡ record { code = IdentifierCount; bytes = b }
+  pub fresh_13 : 4 * record_size ≤ length b → most_nodes < length ids / 4 → fresh_by_bytes b ids f ≡ record { code = number_of IdentifierCount; bytes = b }
   unfolding fresh_by_bytes fresh_by_call fresh_carried refusal bytes_after
   fresh_13 l h =
       let n = length (words_of ids) in
@@ -100,12 +101,12 @@ module _ (b ids : List ℕ) (f : ℕ) where
           ∙ ap (λ l. record { code = 0; bytes = over b l }) (sym (append-nil (words (fresh i f))) ∙ ap (λ l. words (fresh i f) ++ l) (sym (drop_of_length-le z {i = record_size} (omega arith))))
 
 module _ (b out : List ℕ) (number : ℕ) where
-  pub owner_17 : length out < 4 → owner_bytes b number out ≡ record { code = OutputShort; output = out }
+  pub owner_17 : length out < 4 → owner_bytes b number out ≡ record { code = number_of OutputShort; output = out }
   unfolding owner_bytes
   owner_17 h = on_no _ _ _ (lt-leb 4 (length out) h)
 
-  pub owner_1 : 4 ≤ length out → length b < 4 * record_size → owner_bytes b number out ≡ record { code = RecordShort; output = out }
-  unfolding owner_bytes owner_call told owner_refusal owner_words over
+  pub owner_1 : 4 ≤ length out → length b < 4 * record_size → owner_bytes b number out ≡ record { code = number_of RecordShort; output = out }
+  unfolding owner_bytes owner_call told refusal number_words over
   owner_1 h l =
       on_yes _ _ _ (le-leb 4 (length out) h)
       ∙ ap (told out) (record_1 (words_of b) Err _ (omega (arith, words_length b)))

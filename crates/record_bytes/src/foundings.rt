@@ -1,27 +1,28 @@
 // Founding a ring in lent bytes, whoever is to found it.
 ghost use Rattle.std.specs.Prelude.{◌≡◌};
+ghost use Rattle.protocol.specs.Answers.{refusal};
 ghost use Rattle.protocol.specs.Bytes.{words_of, fresh_by_bytes};
 ghost use Rattle.protocol.specs.Fresh.{founder_of};
 
 use crate::results::finish_fresh;
-use protocol::form::{RECORD_BYTES, RECORD_WORDS};
 use protocol::Refusal;
+use protocol::form::{RECORD_BYTES, RECORD_WORDS};
 use word_bytes::load;
 
 // The lent bytes are not loaded, since an accepted call writes the whole record.
-pub(crate) fn found(words: &mut [u8], identifiers: &[u8], founder: Option<u32>) -> u32
-    ensures { fresh_by_bytes words.old identifiers.now (founder_of founder (words_of identifiers.now)) ≡ record { code = result; bytes = words.new } }
+pub fn fresh(words: &mut [u8], identifiers: &[u8], founder: Option<u32>) -> Result<(), Refusal>
+    ensures { fresh_by_bytes words.old identifiers.now (founder_of founder (words_of identifiers.now)) ≡ record { code = refusal result; bytes = words.new } }
 {
     if words.len() < RECORD_BYTES {
-        return Refusal::RecordShort;
+        return Err(Refusal::RecordShort);
     }
     let n = identifiers.len() / 4;
     if 64 < n {
-        return Refusal::IdentifierCount;
+        return Err(Refusal::IdentifierCount);
     }
     let mut ids = [0u32; 64];
     load(identifiers, &mut ids, n);
     let mut w = [0u32; RECORD_WORDS];
-    let r = founding::found(&mut w, &ids[..n], founder);
+    let r = founding::fresh(&mut w, &ids[..n], founder);
     finish_fresh(words, &w, r)
 }

@@ -6,23 +6,24 @@ mod foundings;
 mod results;
 
 ghost use Rattle.std.specs.Prelude.{◌≡◌};
-ghost use Rattle.protocol.specs.Bytes.{step_bytes, owner_bytes, fresh_bytes, fresh_by_bytes};
+ghost use Rattle.protocol.specs.Answers.{refusal};
+ghost use Rattle.protocol.specs.Bytes.{step_bytes, owner_bytes};
 
-use crate::foundings::found;
+pub use crate::foundings::fresh;
 use crate::results::{finish, finish_owner};
-use protocol::form::RECORD_BYTES;
 use protocol::Refusal;
+use protocol::form::RECORD_BYTES;
 use word_bytes::loaded;
 
 // One command on the record in the lent bytes. Only the record is loaded, since a step looks at nothing behind it.
-pub fn step(words: &mut [u8], operation: u32, x: u32, y: u32, out: &mut [u8]) -> u32
-    ensures { step_bytes words.old operation x y out.old ≡ record { code = result; bytes = words.new; output = out.new } }
+pub fn step(words: &mut [u8], operation: u32, x: u32, y: u32, out: &mut [u8]) -> Result<(), Refusal>
+    ensures { step_bytes words.old operation x y out.old ≡ record { code = refusal result; bytes = words.new; output = out.new } }
 {
     if out.len() < 20 {
-        return Refusal::OutputShort;
+        return Err(Refusal::OutputShort);
     }
     if words.len() < RECORD_BYTES {
-        return Refusal::RecordShort;
+        return Err(Refusal::RecordShort);
     }
     let mut w = loaded(&words[..]);
     let r = steps::step(&mut w, operation, x, y);
@@ -30,30 +31,16 @@ pub fn step(words: &mut [u8], operation: u32, x: u32, y: u32, out: &mut [u8]) ->
 }
 
 // The node that holds a number, by the record in the lent bytes, which are only read.
-pub fn owner(words: &[u8], number: u32, out: &mut [u8]) -> u32
-    ensures { owner_bytes words.now number out.old ≡ record { code = result; output = out.new } }
+pub fn owner(words: &[u8], number: u32, out: &mut [u8]) -> Result<(), Refusal>
+    ensures { owner_bytes words.now number out.old ≡ record { code = refusal result; output = out.new } }
 {
     if out.len() < 4 {
-        return Refusal::OutputShort;
+        return Err(Refusal::OutputShort);
     }
     if words.len() < RECORD_BYTES {
-        return Refusal::RecordShort;
+        return Err(Refusal::RecordShort);
     }
     let w = loaded(words);
     let r = queries::owner(&w, number);
     finish_owner(out, r)
-}
-
-// A ring founded in the lent bytes by the node with the smallest identifier.
-pub fn fresh(words: &mut [u8], identifiers: &[u8]) -> u32
-    ensures { fresh_bytes words.old identifiers.now ≡ record { code = result; bytes = words.new } }
-{
-    found(words, identifiers, None)
-}
-
-// A ring founded there by the node that the caller names.
-pub fn fresh_by(words: &mut [u8], identifiers: &[u8], founder: u32) -> u32
-    ensures { fresh_by_bytes words.old identifiers.now founder ≡ record { code = result; bytes = words.new } }
-{
-    found(words, identifiers, Some(founder))
 }

@@ -3,17 +3,30 @@
 #![tactic(auto)]
 
 ghost use Rattle.std.specs.Prelude.{◌≡◌};
+ghost use Rattle.protocol.specs.Answers.{refusal};
 ghost use Rattle.protocol.specs.Bytes.{step_bytes, owner_bytes, fresh_bytes, fresh_by_bytes};
 ghost use Rattle.protocol.specs.CardBytes.{step_cards_bytes, offer_bytes, fresh_cards_bytes, fresh_by_cards_bytes};
 ghost use Rattle.protocol.specs.Batch.{batch_bytes};
 ghost use Rattle.sheet_bytes.specs.Told.{sheet_read, sheet_write};
+
+use protocol::Refusal;
+
+// A refusal's number, 0 for none.
+fn code(r: Result<(), Refusal>) -> u32
+    ensures { result ≡ refusal r }
+{
+    match r {
+        Ok(()) => 0,
+        Err(k) => u32::from(k),
+    }
+}
 
 // One command on the record in the lent bytes.
 #[unsafe(no_mangle)]
 pub extern "C" fn ring_step(words: &mut [u8], operation: u32, x: u32, y: u32, out: &mut [u8]) -> u32
     ensures { step_bytes words.old operation x y out.old ≡ record { code = result; bytes = words.new; output = out.new } }
 {
-    record_bytes::step(words, operation, x, y, out)
+    code(record_bytes::step(words, operation, x, y, out))
 }
 
 // The node that holds a number, by the record in the lent bytes, which are only read.
@@ -21,7 +34,7 @@ pub extern "C" fn ring_step(words: &mut [u8], operation: u32, x: u32, y: u32, ou
 pub extern "C" fn ring_owner(words: &[u8], number: u32, out: &mut [u8]) -> u32
     ensures { owner_bytes words.now number out.old ≡ record { code = result; output = out.new } }
 {
-    record_bytes::owner(words, number, out)
+    code(record_bytes::owner(words, number, out))
 }
 
 // A ring founded in the lent bytes by the node with the smallest identifier.
@@ -29,7 +42,7 @@ pub extern "C" fn ring_owner(words: &[u8], number: u32, out: &mut [u8]) -> u32
 pub extern "C" fn ring_fresh(words: &mut [u8], identifiers: &[u8]) -> u32
     ensures { fresh_bytes words.old identifiers.now ≡ record { code = result; bytes = words.new } }
 {
-    record_bytes::fresh(words, identifiers)
+    code(record_bytes::fresh(words, identifiers, None))
 }
 
 // A ring founded there by the node that the caller names.
@@ -37,7 +50,7 @@ pub extern "C" fn ring_fresh(words: &mut [u8], identifiers: &[u8]) -> u32
 pub extern "C" fn ring_fresh_by(words: &mut [u8], identifiers: &[u8], founder: u32) -> u32
     ensures { fresh_by_bytes words.old identifiers.now founder ≡ record { code = result; bytes = words.new } }
 {
-    record_bytes::fresh_by(words, identifiers, founder)
+    code(record_bytes::fresh(words, identifiers, Some(founder)))
 }
 
 // One command on the record in the lent bytes, with its cards in others.
@@ -52,7 +65,7 @@ pub extern "C" fn ring_step_cards(
 ) -> u32
     ensures { step_cards_bytes words.old book.old operation x y out.old ≡ record { code = result; bytes = words.new; book = book.new; output = out.new } }
 {
-    card_bytes::step(words, book, operation, x, y, out)
+    code(card_bytes::step(words, book, operation, x, y, out))
 }
 
 // A card offered to the ring in the lent bytes, which are only read.
@@ -66,7 +79,7 @@ pub extern "C" fn ring_offer(
 ) -> u32
     ensures { offer_bytes words.now book.old machine revision price ≡ record { code = result; book = book.new } }
 {
-    card_bytes::offer(words, book, machine, revision, price)
+    code(card_bytes::offer(words, book, machine, revision, price))
 }
 
 // A ring founded in the lent bytes with its card slice, by the node with the smallest identifier.
@@ -74,7 +87,7 @@ pub extern "C" fn ring_offer(
 pub extern "C" fn ring_fresh_cards(words: &mut [u8], book: &mut [u8], identifiers: &[u8]) -> u32
     ensures { fresh_cards_bytes words.old book.old identifiers.now ≡ record { code = result; bytes = words.new; book = book.new } }
 {
-    card_bytes::fresh(words, book, identifiers)
+    code(card_bytes::fresh(words, book, identifiers, None))
 }
 
 // The same, by the node that the caller names.
@@ -87,7 +100,7 @@ pub extern "C" fn ring_fresh_by_cards(
 ) -> u32
     ensures { fresh_by_cards_bytes words.old book.old identifiers.now founder ≡ record { code = result; bytes = words.new; book = book.new } }
 {
-    card_bytes::fresh_by(words, book, identifiers, founder)
+    code(card_bytes::fresh(words, book, identifiers, Some(founder)))
 }
 
 // The questions of a route asked at one node, on the record in the lent bytes; an outcome of six words for each.
@@ -100,7 +113,7 @@ pub extern "C" fn ring_route(
 ) -> u32
     ensures { batch_bytes words.old node numbers.now outcomes.old ≡ record { code = result; bytes = words.new; output = outcomes.new } }
 {
-    batch_bytes::ask(words, node, numbers, outcomes)
+    code(batch_bytes::ask(words, node, numbers, outcomes))
 }
 
 // The hubs of an office sheet, into the lent identifiers and names.

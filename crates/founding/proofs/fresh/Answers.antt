@@ -1,4 +1,4 @@
--- `founding::found` gives what `fresh_by_call` says: four refusals that keep the words, each by the tests before it, and the founding. Assumes nothing.
+-- `fresh` gives what `fresh_by_call` says: four refusals that keep the words, each by the tests before it, and the founding. Assumes nothing.
 use mathlib.Core.Path.{sym, ◌∙◌}
 use native.Mathlib.Omega.{arith}
 use lib.ListN.{length}
@@ -6,7 +6,7 @@ use borrow.Author.Tests.{eq-eqb, ne_eqb, lt-leb, le-leb, lt-ltb, le-ltb}
 use Rattle.lists.specs.Basics.{when◌then◌else◌, require}
 use Rattle.protocol.specs.Calls.{long, written, fresh_by_call}
 use Rattle.founding.specs.Laws.{differ, some_few}
-use Rattle.founding.proofs.found.Goals as goal
+use Rattle.founding.proofs.fresh.Goals as goal
 
 pub returns-then-w-lt-RECORD_WORDS : goal.returns-then-w-lt-RECORD_WORDS
 unfolding fresh_by_call long require when◌then◌else◌
