@@ -12,6 +12,7 @@ use Rattle.lists.specs.Basics.{All}
 use Rattle.lists.specs.Blocks.{length_table}
 use Rattle.protocol.specs.Outcomes.{Outcome}
 use Rattle.protocol.specs.declared.Answer.TheVariants.{Quiet}
+use Rattle.protocol.specs.declared.refusal.Refusal.{Refusal}
 use Rattle.protocol.specs.declared.refusal.Refusal.TheVariants.{IdentifierCount, OutputShort, RecordShort}
 use Rattle.protocol.specs.Refusals.{number_of}
 use Rattle.protocol.specs.Record.{most_nodes, most_messages, record_size, count, words}
@@ -85,7 +86,7 @@ module _ (b ids : List ℕ) (f : ℕ) where
       i : List ℕ
       i = first_words ids (length ids / 4)
 
-      refused_same : (k : ℕ) → fresh_carried b (turned_down (words_of b) k) ≡ fresh_carried b (turned_down z k)
+      refused_same : (k : Refusal) → fresh_carried b (turned_down (words_of b) k) ≡ fresh_carried b (turned_down z k)
       refused_same k = refl
 
       behind : drop record_size (words_of b) ≡ words_of (drop (4 * record_size) b)

@@ -7,7 +7,8 @@ use Rattle.std.proofs.lemmas.List.{drop-append-le}
 use Rattle.lists.specs.Basics.{when◌then◌else◌, require, distinct}
 use Rattle.lists.specs.Choice.{on_yes}
 use Rattle.lists.specs.Tests.{says_same, T_true, true_T}
-use Rattle.protocol.specs.declared.refusal.Refusal.TheVariants.{NoHolder}
+use Rattle.protocol.specs.declared.refusal.Refusal.{Refusal}
+use Rattle.protocol.specs.declared.refusal.Refusal.TheVariants.{IdentifierCount, IdentifierTwice, NoFounder, NoHolder, NotWellFormed}
 use Rattle.protocol.specs.Record.{most_nodes, record_size, count_in, read, words}
 use Rattle.protocol.specs.WellFormed.{well_formed}
 use Rattle.protocol.specs.Step.{Result, refused, accepted, step}
@@ -65,8 +66,8 @@ module _ (a t : List ℕ) (e : length a ≡ record_size) where
       ∙ ap (λ l. record { outcome = Ok x; slice = l }) (sym (append_assoc (words s) (drop record_size a) t))
 
   -- questions 1 and 2
-  module _ {A : Type 0} (no-long no_short : ℕ → A) (rest-long rest-short : A) (f : A → A) where
-    same_questions : ((k : ℕ) → no-long k ≡ f (no_short k)) → (well_formed a ≡ true → rest-long ≡ f rest-short)
+  module _ {A : Type 0} (no-long no_short : Refusal → A) (rest-long rest-short : A) (f : A → A) where
+    same_questions : ((k : Refusal) → no-long k ≡ f (no_short k)) → (well_formed a ≡ true → rest-long ≡ f rest-short)
         → on_record (a ++ t) no-long rest-long ≡ f (on_record a no_short rest-short)
     same_questions n r = go (well_formed a) refl
       where
@@ -75,7 +76,7 @@ module _ (a t : List ℕ) (e : length a ≡ record_size) where
             record_rest (a ++ t) no-long rest-long enough (same_formed ∙ ok) ∙ r ok
             ∙ ap f (sym (record_rest a no_short rest-short (omega arith) ok))
         go false bad =
-            record_2 (a ++ t) no-long rest-long enough (same_formed ∙ bad) ∙ n 2
+            record_2 (a ++ t) no-long rest-long enough (same_formed ∙ bad) ∙ n NotWellFormed
             ∙ ap f (sym (record_2 a no_short rest-short (omega arith) bad))
 
   pub same_step : (operation x y : ℕ) → step_call (a ++ t) operation x y ≡ with t (step_call a operation x y)
@@ -103,12 +104,12 @@ same_question f false x y x' y' p q = p
 
 -- a fresh call does not read the words: what is made of its result may be made of that on other words
 pub same_fresh : {X : Type 0} (f : Called → X) (w z ids : List ℕ) (founder : ℕ) → record_size ≤ length w → record_size ≤ length z
-    → ((k : ℕ) → f (turned_down w k) ≡ f (turned_down z k))
+    → ((k : Refusal) → f (turned_down w k) ≡ f (turned_down z k))
     → f (written w (accepted Quiet (fresh ids founder))) ≡ f (written z (accepted Quiet (fresh ids founder)))
     → f (fresh_by_call w ids founder) ≡ f (fresh_by_call z ids founder)
 unfolding fresh_by_call
 same_fresh f w z ids founder l m n r =
     ap f (on_yes _ _ _ (long_yes w l))
-    ∙ same_question f (nat_le 1 (length ids) && nat_le (length ids) most_nodes) _ _ _ _ (n 13)
-    (same_question f (distinct ids) _ _ _ _ (n 14) (same_question f (nat_lt founder (length ids)) _ _ _ _ (n 18) r))
+    ∙ same_question f (nat_le 1 (length ids) && nat_le (length ids) most_nodes) _ _ _ _ (n IdentifierCount)
+    (same_question f (distinct ids) _ _ _ _ (n IdentifierTwice) (same_question f (nat_lt founder (length ids)) _ _ _ _ (n NoFounder) r))
     ∙ sym (ap f (on_yes _ _ _ (long_yes z m)))

@@ -1,4 +1,5 @@
 -- `ask`: the questions of the call in order, then the questions on the words that were loaded. Assumes nothing.
+use Rattle.protocol.specs.Answers.{refusal}
 use mathlib.Core.Path.{◌≡◌, sym, ap, subst, ◌∙◌}
 use mathlib.Core.Bool.{true}
 use Prim.Native.Nat.{◌*◌, ◌/◌}
@@ -17,18 +18,21 @@ use Rattle.batch_bytes.specs.Results.{loaded_valid, bytes_1, bytes_2, bytes_25, 
 use Rattle.batch_bytes.proofs.ask.Goals as goal
 
 pub returns-then-words-lt-RECORD_BYTES : goal.returns-then-words-lt-RECORD_BYTES
+unfolding refusal
 returns-then-words-lt-RECORD_BYTES c =
     let a = c.args in
     let b = a.words.now in
     bytes_1 b a.node a.numbers.now a.outcomes.now (omega arith)
 
 pub returns-then-not-well_formed : goal.returns-then-not-well_formed
+unfolding refusal
 returns-then-not-well_formed c =
     let a = c.args in
     let b = a.words.now in
     bytes_2 b a.node a.numbers.now a.outcomes.now (omega arith) (ap well_formed (sym c.loaded-w.ensures) ∙ sym c.well_formed-2.ensures ∙ c.if-not-well_formed.true)
 
 pub returns-then-n-gt-MOST_QUESTIONS : goal.returns-then-n-gt-MOST_QUESTIONS
+unfolding refusal
 returns-then-n-gt-MOST_QUESTIONS c =
     let a = c.args in
     let b = a.words.now in
@@ -36,6 +40,7 @@ returns-then-n-gt-MOST_QUESTIONS c =
     bytes_25 b a.node a.numbers.now a.outcomes.now (omega arith) f (omega arith)
 
 pub returns-then-outcomes-n : goal.returns-then-outcomes-n
+unfolding refusal
 returns-then-outcomes-n c =
     let a = c.args in
     let b = a.words.now in

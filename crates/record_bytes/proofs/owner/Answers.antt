@@ -1,13 +1,16 @@
 -- `owner` meets its contract: the query on the record is the query on all words. Assumes nothing.
+use Rattle.protocol.specs.Answers.{refusal}
 use mathlib.Core.Path.{◌∙◌}
 use native.Mathlib.Omega.{arith}
 use Rattle.record_bytes.specs.Results.{owner_17, owner_1, owner_rest}
 use Rattle.record_bytes.proofs.owner.Goals as goal
 
 pub returns-then-out-lt4 : goal.returns-then-out-lt4
+unfolding refusal
 returns-then-out-lt4 c = owner_17 c.args.words.now c.args.out.now c.args.number (omega arith)
 
 pub returns-then-words-lt-RECORD_BYTES : goal.returns-then-words-lt-RECORD_BYTES
+unfolding refusal
 returns-then-words-lt-RECORD_BYTES c = owner_1 c.args.words.now c.args.out.now c.args.number (omega arith) (omega arith)
 
 pub returns : goal.returns

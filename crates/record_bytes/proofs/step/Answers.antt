@@ -1,4 +1,5 @@
 -- `step` meets its contract: the bytes' words are the record and what is behind it, the step on the record is the step on all, and writing the record back is writing all back. Assumes nothing.
+use Rattle.protocol.specs.Answers.{refusal}
 use mathlib.Core.Path.{◌∙◌}
 use native.Mathlib.Omega.{arith}
 use Rattle.lists.specs.Basics.{All}
@@ -9,9 +10,11 @@ use borrow.Author.Rules.{rules}
 use Rattle.record_bytes.proofs.step.Goals as goal
 
 pub returns-then-out-lt20 : goal.returns-then-out-lt20
+unfolding refusal
 returns-then-out-lt20 c = let a = c.args in step_17 a.words.now a.out.now a.operation a.x a.y (omega arith)
 
 pub returns-then-words-lt-RECORD_BYTES : goal.returns-then-words-lt-RECORD_BYTES
+unfolding refusal
 returns-then-words-lt-RECORD_BYTES c = let a = c.args in step_1 a.words.now a.out.now a.operation a.x a.y (omega arith) (omega arith)
 
 pub returns : goal.returns

@@ -1,4 +1,5 @@
 -- `fresh` meets its contract: a fresh call on other words is one on the lent words, and writes all of both slices. Assumes nothing.
+use Rattle.protocol.specs.Answers.{refusal}
 use mathlib.Core.Path.{sym, ◌∙◌}
 use Prim.Native.Nat.{ℕ, ◌/◌}
 use native.Mathlib.Omega.{arith}
@@ -11,14 +12,17 @@ use Rattle.card_bytes.specs.Results.{fresh_cards_1, fresh_cards_short, fresh_car
 use Rattle.card_bytes.proofs.calls.fresh.Goals as goal
 
 pub returns-then-words-lt-RECORD_BYTES : goal.returns-then-words-lt-RECORD_BYTES
+unfolding refusal
 returns-then-words-lt-RECORD_BYTES c =
     let a = c.args in fresh_cards_1 a.words.now a.book.now a.identifiers.now (founder_of a.founder (words_of a.identifiers.now)) (omega arith)
 
 pub returns-then-book-lt-BOOK_BYTES : goal.returns-then-book-lt-BOOK_BYTES
+unfolding refusal
 returns-then-book-lt-BOOK_BYTES c =
     let a = c.args in fresh_cards_short a.words.now a.book.now a.identifiers.now (founder_of a.founder (words_of a.identifiers.now)) (omega arith) (omega arith)
 
 pub returns-then-n-gt64 : goal.returns-then-n-gt64
+unfolding refusal
 returns-then-n-gt64 c =
     let a = c.args in fresh_cards_13 a.words.now a.book.now a.identifiers.now (founder_of a.founder (words_of a.identifiers.now)) (omega arith) (omega arith) (omega arith)
 

@@ -1,13 +1,16 @@
 -- `offer` meets its contract: the first words of both slices are loaded, and the cards written back. Assumes nothing.
+use Rattle.protocol.specs.Answers.{refusal}
 use mathlib.Core.Path.{◌∙◌}
 use native.Mathlib.Omega.{arith}
 use Rattle.card_bytes.specs.Results.{offer_1, offer_short, offer_rest}
 use Rattle.card_bytes.proofs.calls.offer.Goals as goal
 
 pub returns-then-words-lt-RECORD_BYTES : goal.returns-then-words-lt-RECORD_BYTES
+unfolding refusal
 returns-then-words-lt-RECORD_BYTES c = let a = c.args in offer_1 a.words.now a.book.now a.machine a.revision a.price (omega arith)
 
 pub returns-then-book-lt-BOOK_BYTES : goal.returns-then-book-lt-BOOK_BYTES
+unfolding refusal
 returns-then-book-lt-BOOK_BYTES c = let a = c.args in offer_short a.words.now a.book.now a.machine a.revision a.price (omega arith) (omega arith)
 
 pub returns : goal.returns

@@ -1,16 +1,20 @@
 -- `step` meets its contract: the first words of both slices are loaded, and written back. Assumes nothing.
+use Rattle.protocol.specs.Answers.{refusal}
 use mathlib.Core.Path.{◌∙◌}
 use native.Mathlib.Omega.{arith}
 use Rattle.card_bytes.specs.Results.{step_cards_17, step_cards_1, step_cards_short, step_cards_rest}
 use Rattle.card_bytes.proofs.calls.step.Goals as goal
 
 pub returns-then-out-lt20 : goal.returns-then-out-lt20
+unfolding refusal
 returns-then-out-lt20 c = let a = c.args in step_cards_17 a.words.now a.book.now a.out.now a.operation a.x a.y (omega arith)
 
 pub returns-then-words-lt-RECORD_BYTES : goal.returns-then-words-lt-RECORD_BYTES
+unfolding refusal
 returns-then-words-lt-RECORD_BYTES c = let a = c.args in step_cards_1 a.words.now a.book.now a.out.now a.operation a.x a.y (omega arith) (omega arith)
 
 pub returns-then-book-lt-BOOK_BYTES : goal.returns-then-book-lt-BOOK_BYTES
+unfolding refusal
 returns-then-book-lt-BOOK_BYTES c = let a = c.args in step_cards_short a.words.now a.book.now a.out.now a.operation a.x a.y (omega arith) (omega arith) (omega arith)
 
 pub returns : goal.returns

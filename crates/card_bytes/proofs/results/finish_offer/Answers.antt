@@ -1,13 +1,16 @@
 -- `finish_offer` hands back what an offer left. Assumes nothing.
+use Rattle.std.proofs.lemmas.Result.{err_from_is_err_and}
 use Rattle.protocol.specs.Answers.{refusal}
 use Rattle.protocol.specs.Bytes.{bytes_after}
 use Rattle.protocol.specs.CardBytes.{taken}
 use Rattle.card_bytes.proofs.results.finish_offer.Goals as goal
 
-pub returns-in-Err : goal.returns-in-Err
+pub returns-in_err-r : goal.returns-in_err-r
 unfolding taken refusal bytes_after
-returns-in-Err c = λ w. simp c.in-Err.is
+returns-in_err-r c =
+    let refused = err_from_is_err_and c.from_residual.result c.from_residual.ensures.1 in
+    λ w. rw (refused.1, refused.2) (simp c.in_err-r.was)
 
-pub returns-in-Ok : goal.returns-in-Ok
+pub returns : goal.returns
 unfolding taken refusal bytes_after
-returns-in-Ok c = λ w. simp (c.in-Ok.is, c.save.ensures)
+returns c = λ w. simp (c.in_ok-r.was, c.save.ensures)

@@ -1,13 +1,16 @@
 -- `finish_step` hands back what a step with cards left. Assumes nothing.
+use Rattle.std.proofs.lemmas.Result.{err_from_is_err_and}
 use Rattle.protocol.specs.Answers.{refusal, outcome_words}
 use Rattle.protocol.specs.Bytes.{over, bytes_after}
 use Rattle.protocol.specs.CardBytes.{carried_cards}
 use Rattle.card_bytes.proofs.results.finish_step.Goals as goal
 
-pub returns-in-Err : goal.returns-in-Err
+pub returns-in_err-a : goal.returns-in_err-a
 unfolding carried_cards refusal outcome_words bytes_after over
-returns-in-Err c = simp c.in-Err.is
+returns-in_err-a c =
+    let refused = err_from_is_err_and c.from_residual.result c.from_residual.ensures.1 in
+    rw (refused.1, refused.2) (simp c.in_err-a.was)
 
-pub returns-in-Ok : goal.returns-in-Ok
+pub returns : goal.returns
 unfolding carried_cards refusal outcome_words bytes_after
-returns-in-Ok c = simp (c.in-Ok.is, c.save-in-Ok-2.ensures, c.answer_words-answer.ensures, c.save-in-Ok.ensures, c.save.ensures)
+returns c = simp (c.in_ok-a.was, c.save.ensures, c.save-2.ensures, c.answer_words-answer.ensures, c.save-3.ensures)

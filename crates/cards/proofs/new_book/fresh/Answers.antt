@@ -1,5 +1,7 @@
 -- `fresh`: the questions, the ring, then its cards. Assumes nothing.
-use native.Mathlib.Omega.{arith}
+use Rattle.std.proofs.Common.{ap, sym, ◌∙◌, arith}
+use Rattle.std.specs.Prelude.{Err}
+use Rattle.std.proofs.lemmas.Result.{err_from_is_err_and}
 use Rattle.protocol.specs.Fresh.{founder_of}
 use Rattle.cards.specs.New.{fresh_below, new_1, new_cards_1, new_refused, new_made}
 use borrow.Author.Rules.{rules}
@@ -13,17 +15,19 @@ returns-then-k-lt-BOOK_WORDS c = let a = c.args in new_cards_1 a.w.now a.k.now a
 
 pub write_new-requires : goal.write_new-requires
 write_new-requires c = let a = c.args in
-    let f = c.fresh-r in
-    let l = fresh_below a.w.now a.identifiers.now (founder_of a.founder a.identifiers.now) f.result _ c.in-Ok.a f.ensures c.in-Ok.is in
+    let f = c.fresh in
+    let l = fresh_below a.w.now a.identifiers.now (founder_of a.founder a.identifiers.now) f.result _ c.in_ok-a.a f.ensures c.in_ok-a.was in
     (omega (arith, l, c.founding_node.ensures), search rules)
 
-pub returns-in-Err : goal.returns-in-Err
-returns-in-Err c = let a = c.args in
-    let f = c.fresh-r in
-    new_refused a.w.now a.k.now a.identifiers.now (founder_of a.founder a.identifiers.now) c.if-w-lt-RECORD_WORDS.false c.if-k-lt-BOOK_WORDS.false f.result _ f.ensures c.in-Err.number c.in-Err.is
+pub returns-in_err-a : goal.returns-in_err-a
+returns-in_err-a c = let a = c.args in
+    let f = c.fresh in
+    let refusal = err_from_is_err_and c.from_residual.result c.from_residual.ensures.1 in
+    new_refused a.w.now a.k.now a.identifiers.now (founder_of a.founder a.identifiers.now) c.if-w-lt-RECORD_WORDS.false c.if-k-lt-BOOK_WORDS.false f.result _ f.ensures c.in_err-a.field-0.0 c.in_err-a.was
+    ∙ ap (λ o. record { outcome = o; slice = f.new.w; cards = a.k.now }) (sym (refusal.1 ∙ ap Err refusal.2))
 
-pub returns-in-Ok : goal.returns-in-Ok
-returns-in-Ok c = let a = c.args in
-    let f = c.fresh-r in
+pub returns : goal.returns
+returns c = let a = c.args in
+    let f = c.fresh in
     let n = c.founding_node in
-    new_made a.w.now a.k.now a.identifiers.now (founder_of a.founder a.identifiers.now) c.if-w-lt-RECORD_WORDS.false c.if-k-lt-BOOK_WORDS.false f.result _ f.ensures c.in-Ok.a c.in-Ok.is n.result n.ensures _ c.write_new.ensures
+    new_made a.w.now a.k.now a.identifiers.now (founder_of a.founder a.identifiers.now) c.if-w-lt-RECORD_WORDS.false c.if-k-lt-BOOK_WORDS.false f.result _ f.ensures c.in_ok-a.a c.in_ok-a.was n.result n.ensures _ c.write_new.ensures

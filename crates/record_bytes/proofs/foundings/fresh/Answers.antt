@@ -1,4 +1,5 @@
 -- `fresh` meets its contract: a fresh call on other words is one on the lent words, and writing the record is writing all of them. Assumes nothing.
+use Rattle.protocol.specs.Answers.{refusal}
 use mathlib.Core.Path.{sym, ◌∙◌}
 use Prim.Native.Nat.{ℕ, ◌/◌}
 use lib.ListN.{length, replicate, length-replicate}
@@ -13,11 +14,13 @@ use Rattle.protocol.specs.Bytes.{Byte, words_of}
 use Rattle.record_bytes.proofs.foundings.fresh.Goals as goal
 
 pub returns-then-words-lt-RECORD_BYTES : goal.returns-then-words-lt-RECORD_BYTES
+unfolding refusal
 returns-then-words-lt-RECORD_BYTES c =
     let a = c.args in
     fresh_1 a.words.now a.identifiers.now (founder_of a.founder (words_of a.identifiers.now)) (omega arith)
 
 pub returns-then-n-gt64 : goal.returns-then-n-gt64
+unfolding refusal
 returns-then-n-gt64 c =
     let a = c.args in
     fresh_13 a.words.now a.identifiers.now (founder_of a.founder (words_of a.identifiers.now)) (omega arith) (omega arith)

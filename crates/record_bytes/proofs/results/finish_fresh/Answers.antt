@@ -1,12 +1,15 @@
 -- `finish_fresh` hands back what a fresh call left. Assumes nothing.
+use Rattle.std.proofs.lemmas.Result.{err_from_is_err_and}
 use Rattle.protocol.specs.Answers.{refusal}
 use Rattle.protocol.specs.Bytes.{bytes_after, fresh_carried}
 use Rattle.record_bytes.proofs.results.finish_fresh.Goals as goal
 
-pub returns-in-Err : goal.returns-in-Err
+pub returns-in_err-r : goal.returns-in_err-r
 unfolding fresh_carried refusal bytes_after
-returns-in-Err c = simp c.in-Err.is
+returns-in_err-r c =
+    let refused = err_from_is_err_and c.from_residual.result c.from_residual.ensures.1 in
+    rw (refused.1, refused.2) (simp c.in_err-r.was)
 
-pub returns-in-Ok : goal.returns-in-Ok
+pub returns : goal.returns
 unfolding fresh_carried refusal bytes_after
-returns-in-Ok c = simp (c.in-Ok.is, c.save.ensures)
+returns c = simp (c.in_ok-r.was, c.save.ensures)
