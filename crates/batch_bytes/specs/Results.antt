@@ -7,6 +7,7 @@ use Rattle.lists.specs.Basics.{All, flat}
 use Rattle.lists.specs.Blocks.{length_table, length_flat}
 use Rattle.protocol.specs.declared.Answer.TheVariants.{Quiet}
 use Rattle.std.specs.Prelude.{Ok}
+use Rattle.protocol.specs.declared.refusal.Refusal.{Refusal}
 use Rattle.protocol.specs.declared.refusal.Refusal.TheVariants.{NotWellFormed, PlacesShort, RecordShort, RouteLong}
 use Rattle.protocol.specs.Refusals.{number_of}
 use Rattle.protocol.specs.Record.{record_size}
@@ -38,8 +39,8 @@ module _ (b : List ℕ) (hub : ℕ) (numbers out : List ℕ) where
   abbrev given : BatchCalled → CalledBytes
   given = batch_carried b out
 
-  abbrev none : ℕ → CalledBytes
-  none k = record { code = k; bytes = b; output = out }
+  abbrev none : Refusal → CalledBytes
+  none k = record { code = number_of k; bytes = b; output = out }
 
   abbrev rest : BatchCalled
   rest = batch_written (words_of numbers) (words_of out) (ask_each (words_of b) hub (words_of numbers))

@@ -72,6 +72,7 @@ save-requires-2 c =
     omega (arith, length-take-le (6 * n) c.ask_each.new.outcomes (omega arith))
 
 pub returns : goal.returns
+unfolding refusal
 returns c =
     let a = c.args in
     let b = a.words.now in
