@@ -1,5 +1,5 @@
 -- What the functions that write a name find, in a text that is known to be a sheet, and why there is room. Assumes nothing.
-use Rattle.std.specs.Prelude.{◌≡◌, ◌≢◌, Bool, ℕ, ◌+◌, ◌-◌, ◌≤◌, ◌<◌, get_or}
+use Rattle.std.specs.Prelude.{◌≡◌, Option, Some, None, IsSome, Bool, not, ℕ, zero, suc, ◌+◌, ◌-◌, ◌≤◌, ◌<◌, get_or}
 use Rattle.std.proofs.Math.Path.{refl, ap, sym}
 use Rattle.std.proofs.Common.{◌∙◌}
 use Rattle.std.proofs.Math.Bool.{true, false}
@@ -7,26 +7,28 @@ use mathlib.Core.List.{List, [], ◌∷◌, ◌++◌, append_assoc, append-nil}
 use native.Mathlib.Omega.{arith}
 use borrow.Author.Tests.{ltb-true, ltb-false, eqb-true, eqb-false}
 use Rattle.std.proofs.Common.{nat_lt, nat_eq}
-use Rattle.std.proofs.Math.ListN.{length, set, length-append}
+use Rattle.std.proofs.Math.ListN.{length, set, length-append, take, drop}
+use Rattle.std.proofs.Common.{drop-drop}
+use borrow.Rule.Slice.PartMut.{put_mid}
 use Rattle.lists.specs.Basics.{when◌then◌else◌, every}
 use Rattle.lists.specs.Splice.{splice}
 use Rattle.sheet_reading.specs.declared.Put.{Put}
 use Rattle.sheet_reading.specs.declared.RowPut.{RowPut}
-use Rattle.sheet_reading.specs.declared.Number.TheVariants.{None as NoNumber, Read as NumberAt}
-use Rattle.sheet_reading.specs.declared.RowEnd.TheVariants.{None as NoEnd, At as EndAt}
+use Rattle.sheet_reading.specs.declared.Run.{Run}
 use Rattle.sheets.specs.Grammar.{quote, comma}
 use Rattle.sheet_reading.specs.Kinds.{plain_byte, quoted_byte}
 use Rattle.sheets.specs.declared.Place.{Place}
-use Rattle.sheets.specs.declared.Place.TheVariants.{Start, Plain, Quoted, Closed, Number, NumberOpened, Wrong}
+use Rattle.sheets.specs.declared.Place.TheVariants.{Start, Plain, Quoted, Closed, Number, Wrong}
 use Rattle.sheets.specs.declared.Effect.TheVariants.{Letter}
 use Rattle.sheets.specs.declared.Ending.TheVariants.{Within}
 use Rattle.sheets.specs.Reader.{next, effect, standing, nothing, lists, ending, ended_as}
 use Rattle.sheets.proofs.Sound.{silent}
-use Rattle.sheet_reading.specs.Runs.{between, between_none, between_more, length_between}
+use Rattle.sheets.specs.Bytes.{not_yes}
+use Rattle.sheet_reading.specs.Runs.{between, RunTo, length_between, every_empty, every_between, run_at}
 use Rattle.sheet_reading.specs.Nexts
-use Rattle.sheet_reading.specs.Onward.{onward, onward_end, onward_wrong, onward_closed, onward_letter, onward_quoted, onward_number, onward_as, names_over, plain_stays, quoted_stays, plain_over, quoted_over, onward_grows}
+use Rattle.sheet_reading.specs.Onward.{onward, onward_end, onward_wrong, onward_closed, onward_quoted, onward_number, onward_as, names_over, plain_stays, quoted_stays, plain_over, quoted_over, onward_grows}
 use Rattle.sheets.specs.Laying.{splice_none, splice_one, splice_twice, length_splice}
-use Rattle.sheet_reading.specs.Judged.{capped, NumberIs, DigitsSaid, EndIs, opened_name, number_read, number_none, number_opened, quoted_number_read, quoted_number_empty, quoted_number_ends, quoted_number_stops}
+use Rattle.sheet_reading.specs.Judged.{capped, NumberIs, EndIs, opened_name}
 
 -- A reader at this place of the text that has said names of `at` bytes, and reads on to the end: all names have this room.
 pub record Readable (t : List ℕ) (p : Place) (i at room : ℕ) : Type 0 where
@@ -65,6 +67,10 @@ place_for stop = when nat_eq stop comma then Plain else Quoted
 unfoldable pub test_for : ℕ → ℕ → Bool
 test_for stop b = when nat_eq stop comma then plain_byte b else quoted_byte b
 
+-- A byte that does not end the copy.
+unfoldable pub before : ℕ → ℕ → Bool
+before stop b = not (nat_eq b stop)
+
 -- Bytes copied up to the one that ends them.
 pub record Copied (t : List ℕ) (i j stop : ℕ) (names₀ : List ℕ) (at : ℕ) (names : List ℕ) : Type 0 where
   pub from : i ≤ j
@@ -94,40 +100,61 @@ module _ (t : List ℕ) (i at room stop : ℕ) (k : Copies (place_for stop) stop
       go false q = absurd (silent r.all_names r.all_numbers (
           sym (onward_end t p n r.numbers r.value j (ltb-false _ _ q) ∙ ap (λ x. ended_as x (standing p n r.numbers r.value)) k.within) ∙ going))
 
-  module _ (q : get_or t j 0 ≡ stop → ⊥) where
-    pub copy_passes : test_for stop (get_or t j 0) ≡ true
-    copy_passes = go (test_for stop (get_or t j 0)) refl
-      where
-        go : (b : Bool) → test_for stop (get_or t j 0) ≡ b → b ≡ true
-        go true z = refl
-        go false z = absurd (silent r.all_names r.all_numbers (sym (onward_wrong t p n r.numbers r.value j copy_goes (k.wrong (get_or t j 0) z q)) ∙ going))
+  copy_passes : (get_or t j 0 ≡ stop → ⊥) → test_for stop (get_or t j 0) ≡ true
+  copy_passes q = go (test_for stop (get_or t j 0)) refl
+    where
+      go : (b : Bool) → test_for stop (get_or t j 0) ≡ b → b ≡ true
+      go true z = refl
+      go false z = absurd (silent r.all_names r.all_numbers (sym (onward_wrong t p n r.numbers r.value j copy_goes (k.wrong (get_or t j 0) z q)) ∙ going))
 
-    pub copy_room : at + (j - i) < room
-    copy_room =
-        let g = (onward_grows t p (n ++ (get_or t j 0 ∷ [])) r.numbers r.value (j + 1) r.all_names r.all_numbers
-        (sym (onward_letter t p n r.numbers r.value j copy_goes p k.letter (k.stays (get_or t j 0) copy_passes)) ∙ going)).0 in
-        let a = length-append n (get_or t j 0 ∷ []) in
-        let b = length-append r.names (between i j t) in
-        let l = copy_goes in
-        let c = length_between i j t h (omega arith) in
-        let d = r.here in
-        let f = r.fits in
-        omega arith
+  pub copy_room : at + (j - i) ≤ room
+  copy_room =
+      let g = (onward_grows t p n r.numbers r.value j r.all_names r.all_numbers going).0 in
+      let b = length-append r.names (between i j t) in
+      let l = copy_goes in
+      let c = length_between i j t h (omega arith) in
+      let d = r.here in
+      let f = r.fits in
+      omega arith
 
--- one byte more is copied
-pub copy_none : (w t : List ℕ) (at i : ℕ) → w ≡ splice w at (between i i t)
-copy_none w t at i = splice_none w at ∙ ap (splice w at) (sym (between_none i t))
+not_no : (a : Bool) → not a ≡ false → a ≡ true
+not_no true e = refl
+not_no false e = sym e
 
-pub copy_more : (w u t : List ℕ) (at i j : ℕ) → i ≤ j → j < length t → at + (j - i) < length w → u ≡ splice w at (between i j t)
-    → set u (at + (j - i)) (get_or t j 0) ≡ splice w at (between i (j + 1) t)
-copy_more w u t at i j h l r e =
-    let a = length_between i j t h (omega arith) in
-    let s : length (splice w at (between i j t)) ≡ length w = length_splice w (between i j t) at (omega arith) in
-    ap (λ x. set x (at + (j - i)) (get_or t j 0)) e
-    ∙ splice_one (splice w at (between i j t)) (at + (j - i)) (get_or t j 0) (omega arith)
-    ∙ ap (λ n. splice (splice w at (between i j t)) (at + n) (get_or t j 0 ∷ [])) (sym a)
-    ∙ splice_twice w (between i j t) (get_or t j 0 ∷ []) at (omega arith)
-    ∙ ap (splice w at) (sym (between_more i j t h l))
+-- the bytes before the one that ends the copy all belong to the name
+module _ (t : List ℕ) (i at room stop : ℕ) (k : Copies (place_for stop) stop (test_for stop)) (r : Readable t (place_for stop) i at room) (e : ℕ) (u : RunTo (before stop) t i e) where
+  not_stop : (b : ℕ) → before stop b ≡ true → b ≡ stop → ⊥
+  unfolding before
+  not_stop b q = eqb-false _ _ (not_yes _ q)
+
+  passed_to : (m j : ℕ) → j ≡ i + m → j ≤ e → every (test_for stop) (between i j t) ≡ true
+  passed_to zero j q h = ap (λ x. every (test_for stop) (between i x t)) (let z : j ≡ i = omega arith in z) ∙ every_empty (test_for stop) i t
+  passed_to (suc m) j q h =
+      let x = i + m in
+      let z : j ≡ x + 1 = omega arith in
+      let b = passed_to m x refl (omega arith) in
+      let w = u.within in
+      ap (λ y. every (test_for stop) (between i y t)) z
+      ∙ every_between (test_for stop) i x t (omega arith) (omega arith) b (copy_passes t i at room stop k r x (omega arith) b (not_stop _ (run_at (before stop) t i e u x (omega arith) (omega arith))))
+
+  pub copy_all : every (test_for stop) (between i e t) ≡ true
+  copy_all = let f = u.from in passed_to (e - i) e (omega arith) (omega arith)
+
+  pub copied : (names₀ names : List ℕ) → names ≡ splice names₀ at (between i e t) → Copied t i e stop names₀ at names
+  unfolding before
+  copied names₀ names w = record {
+    from = u.from;
+    within = copy_goes t i at room stop k r e u.from copy_all;
+    passed = copy_all;
+    ended = eqb-true _ _ (not_no _ (u.stopped (copy_goes t i at room stop k r e u.from copy_all)));
+    written = w;
+  }
+
+-- a part of a buffer written over
+pub mid_splice : (w ys : List ℕ) (at k : ℕ) → k ≡ length ys → put_mid at k w ys ≡ splice w at ys
+unfolding splice
+mid_splice w ys at k q =
+    sym (append_assoc (take at w) ys (drop k (drop at w))) ∙ ap (λ z. take at w ++ ys ++ z) (drop-drop k at w ∙ ap (λ x. drop (at + x) w) q)
 
 -- A name written with its zero byte, and what is said from the number on.
 pub record NamePut (t : List ℕ) (p : Place) (i : ℕ) (names₀ : List ℕ) (at : ℕ) (names : List ℕ) (r : Put) : Type 0 where
@@ -434,12 +461,13 @@ module _ (t : List ℕ) (i at room : ℕ) where
     pub number_there : NumberThere t p.end
     number_there = (so, r.numbers, r.all_names, r.all_numbers, numbered)
 
-    module _ (k value : ℕ) (x : NumberIs t Number p.end (NumberAt k value)) where
-      pub end_there : EndIs t k NoEnd → ⊥
+    module _ (d : Run) (x : NumberIs t Number p.end (Some d)) where
+      pub end_said : (e : Option ℕ) → EndIs t d.end e → IsSome e
       unfolding NumberIs EndIs
-      end_there y = silent r.all_names r.all_numbers (sym (x.leads so r.numbers ∙ y so r.numbers x.number) ∙ numbered)
+      end_said None y = absurd (silent r.all_names r.all_numbers (sym (x.leads so r.numbers ∙ y so r.numbers x.number) ∙ numbered))
+      end_said (Some end) y = refl
 
-      pub row_put_lem : (end : ℕ) → EndIs t k (EndAt end) → RowPutIs t i names₀ at names (record { end = end; at = p.at; value = value })
+      pub row_put_lem : (end : ℕ) → EndIs t d.end (Some end) → RowPutIs t i names₀ at names (record { end = end; at = p.at; value = d.value })
       unfolding NumberIs EndIs
       row_put_lem end y = let a = s.ahead in let b = x.ahead in let c = y.ahead in record {
         name = s.name;
@@ -453,45 +481,7 @@ module _ (t : List ℕ) (i at room : ℕ) where
       }
 
 -- the number is there
-module _ (t : List ℕ) (i : ℕ) (r : NumberThere t i) where
-  never : {A : Type 0} → ((n c : List ℕ) → onward t Number n c 0 i ≡ nothing) → A
-  never f = absurd (silent r.2 r.3 (sym (f r.0 r.1) ∙ r.4))
-
-  pub number_goes : i < length t
-  unfolding ended_as ending
-  number_goes = go (nat_lt i (length t)) refl
-    where
-      go : (b : Bool) → nat_lt i (length t) ≡ b → i < length t
-      go true e = ltb-true _ _ e
-      go false e = never (λ n c. onward_end t Number n c 0 i (ltb-false _ _ e))
-
-  pub number_plain : (e v : ℕ) → (get_or t i 0 ≡ quote → ⊥) → DigitsSaid t i e v → NumberIs t Number i (NumberAt e v)
-  unfolding NumberIs
-  number_plain e v k d = go (nat_eq e i) refl
-    where
-      go : (b : Bool) → nat_eq e i ≡ b → NumberIs t Number i (NumberAt e v)
-      go true q = never (number_none t i e v d number_goes k (eqb-true _ _ q))
-      go false q = let f = d.digits.from in let z : e ≢ i = eqb-false _ _ q in number_read t i e v d (omega arith)
-
-  module _ (e v : ℕ) (k : get_or t i 0 ≡ quote) (d : DigitsSaid t (i + 1) e v) where
-    unquotable : NumberIs t NumberOpened (i + 1) NoNumber → NumberIs t Number i (NumberAt (e + 1) v)
-    unfolding NumberIs
-    unquotable x = never (number_opened t i number_goes k NoNumber x)
-
-    pub number_quoted_lem : NumberIs t Number i (NumberAt (e + 1) v)
-    number_quoted_lem = go (nat_eq e (i + 1)) refl
-      where
-        w : e ≤ length t
-        w = d.digits.within
-
-        last : i + 1 < e → e < length t → (b : Bool) → nat_eq (get_or t e 0) quote ≡ b → NumberIs t Number i (NumberAt (e + 1) v)
-        last h l true q = number_opened t i number_goes k (NumberAt (e + 1) v) (quoted_number_read t (i + 1) e v d h l (eqb-true _ _ q))
-        last h l false q = unquotable (quoted_number_stops t (i + 1) e v d h l (eqb-false _ _ q))
-
-        more : i + 1 < e → (b : Bool) → nat_lt e (length t) ≡ b → NumberIs t Number i (NumberAt (e + 1) v)
-        more h true q = last h (ltb-true _ _ q) (nat_eq (get_or t e 0) quote) refl
-        more h false q = let z : length t ≤ e = ltb-false _ _ q in let y : e ≤ length t = w in unquotable (quoted_number_ends t (i + 1) e v d h (omega arith))
-
-        go : (b : Bool) → nat_eq e (i + 1) ≡ b → NumberIs t Number i (NumberAt (e + 1) v)
-        go true q = unquotable (quoted_number_empty t (i + 1) e v d (eqb-true _ _ q))
-        go false q = let f = d.digits.from in let z : e ≢ i + 1 = eqb-false _ _ q in more (omega arith) (nat_lt e (length t)) refl
+pub number_said : (t : List ℕ) (i : ℕ) → NumberThere t i → (r : Option Run) → NumberIs t Number i r → IsSome r
+unfolding NumberIs
+number_said t i there None x = absurd (silent there.2 there.3 (sym (x there.0 there.1) ∙ there.4))
+number_said t i there (Some d) x = refl

@@ -1,10 +1,12 @@
 -- Runs: bytes one after the other that pass a test, up to the first that does not. Assumes nothing.
 use Rattle.std.specs.Prelude.{◌≡◌, refl, Bool, true, false, List, [], ◌∷◌, ◌++◌, ℕ, suc, ◌+◌, ◌-◌, ◌*◌, ◌≤◌, ◌<◌, length, take, drop, get_or}
-use Rattle.std.proofs.Common.{ap, sym, ◌∙◌, arith, length-drop, take-append-drop, take-suc, take-add, length-take-le, get_or-drop, drop-drop}
+use Rattle.std.proofs.lemmas.Slice.{between_to_end}
+use Rattle.std.proofs.lemmas.List.{get_or_default}
+use Rattle.std.proofs.Common.{nat_lt, ltb-true, add-zero, ap, sym, ◌∙◌, arith, length-drop, take-append-drop, take-suc, take-add, length-take-le, get_or-drop, drop-drop}
 use Rattle.lists.specs.Basics.{every}
 use Rattle.lists.specs.Merge.{every_append}
 use Rattle.sheets.specs.Grammar.{worth}
-use Rattle.sheets.specs.Bytes.{every_head}
+use Rattle.sheets.specs.Bytes.{every_head, and_second}
 
 -- The bytes of a text from a place up to another.
 abbrev pub between : ℕ → ℕ → List ℕ → List ℕ
@@ -16,6 +18,20 @@ pub record RunTo (f : ℕ → Bool) (t : List ℕ) (i j : ℕ) : Type 0 where
   pub within : j ≤ length t
   pub passed : every f (between i j t) ≡ true
   pub stopped : j < length t → f (get_or t j 0) ≡ false
+
+-- a byte that `get` found
+pub looked_up : (t : List ℕ) (i x : ℕ) → true ≡ nat_lt i (length t) → x ≡ get_or t i x → (i < length t) × (x ≡ get_or t i 0)
+looked_up t i x h e = let l = ltb-true _ _ (sym h) in (l, e ∙ get_or_default t i x 0 l)
+
+-- the rest of a text, and its first two bytes
+pub rest_first : (i : ℕ) (t : List ℕ) → get_or (between i (length t) t) 0 0 ≡ get_or t i 0
+rest_first i t = ap (λ l. get_or l 0 0) (between_to_end t i (length t) (omega arith)) ∙ get_or-drop i t 0 0 ∙ ap (λ k. get_or t k 0) (add-zero i)
+
+pub rest_second : (i : ℕ) (t : List ℕ) → get_or (between i (length t) t) 1 0 ≡ get_or t (i + 1) 0
+rest_second i t = ap (λ l. get_or l 1 0) (between_to_end t i (length t) (omega arith)) ∙ get_or-drop i t 1 0
+
+pub length_rest : (i : ℕ) (t : List ℕ) → length (between i (length t) t) ≡ length t - i
+length_rest i t = ap length (between_to_end t i (length t) (omega arith)) ∙ length-drop i t
 
 -- one byte more between two places
 pub between_none : (i : ℕ) (t : List ℕ) → between i i t ≡ []
@@ -83,3 +99,14 @@ run_first f t i j r h =
     let e : between i (i + 1) t ≡ get_or t i 0 ∷ [] = between_more i i t (omega arith) (omega arith) ∙ ap (λ l. l ++ (get_or t i 0 ∷ [])) (between_none i t) in
     let s : between i j t ≡ get_or t i 0 ∷ between (i + 1) j t = between_both i (i + 1) j t (omega arith) (omega arith) ∙ ap (λ l. l ++ between (i + 1) j t) e in
     every_head f (get_or t i 0) (between (i + 1) j t) (sym (ap (every f) s) ∙ r.passed)
+
+-- every byte of a run passes
+pub run_at : (f : ℕ → Bool) (t : List ℕ) (i e : ℕ) → RunTo f t i e → (j : ℕ) → i ≤ j → j < e → f (get_or t j 0) ≡ true
+run_at f t i e r j h l =
+    let b = ap (every f) (between_both i j e t h (omega arith)) ∙ every_append f (between i j t) (between j e t) in
+    run_first f t j e (record {
+      from = omega arith;
+      within = r.within;
+      passed = and_second (every f (between i j t)) (every f (between j e t)) (sym b ∙ r.passed);
+      stopped = r.stopped;
+    }) l

@@ -9,8 +9,8 @@ ghost use Rattle.protocol.specs.Bytes.{words_of};
 use crate::Room;
 use crate::rows::{put_row, row_room};
 use crate::scanning::{names_for, scan};
-use protocol::refusals;
-use sheets::Outcome;
+use protocol::Refusal;
+use sheets::Counts;
 
 fn wide(x: u8) -> u32
     ensures { (result ≡ x) × (result < 256) }
@@ -62,18 +62,18 @@ fn put_rows(names: &[u8], identifiers: &[u8], text: &mut [u8]) -> usize
     out
 }
 
-pub fn write_sheet_bytes(names: &[u8], identifiers: &[u8], text: &mut [u8]) -> Outcome
+pub fn write_sheet_bytes(names: &[u8], identifiers: &[u8], text: &mut [u8]) -> Result<Counts, Refusal>
     ensures { write_bytes_call names.now identifiers.now text.old ≡ record { outcome = result; text = text.new } }
 {
     let rows = identifiers.len() / 4;
     if !names_for(names, rows) {
-        return Outcome::Refused(refusals::NO_SHEET);
+        return Err(Refusal::NoSheet);
     }
     match room_left(names, identifiers, text.len()) {
-        Room::Short => Outcome::Refused(refusals::ROOM_SHORT),
+        Room::Short => Err(Refusal::RoomShort),
         Room::Left(_) => {
             let bytes = put_rows(names, identifiers, text);
-            Outcome::Done { rows, bytes }
+            Ok(Counts { rows, bytes })
         }
     }
 }

@@ -8,8 +8,8 @@ ghost use Rattle.sheet_writing.specs.Scanning.{less_by};
 use crate::Room;
 use crate::rows::{put_row, row_room};
 use crate::scanning::{names_for, scan};
-use protocol::refusals;
-use sheets::Outcome;
+use protocol::Refusal;
+use sheets::Counts;
 
 // The room that all rows leave of so many bytes.
 fn room_left(names: &[u8], identifiers: &[u32], limit: usize) -> Room
@@ -45,18 +45,18 @@ fn put_rows(names: &[u8], identifiers: &[u32], text: &mut [u8]) -> usize
 }
 
 // Names and room are looked at before anything is written, so that a refusal writes nothing.
-pub fn write_sheet(names: &[u8], identifiers: &[u32], text: &mut [u8]) -> Outcome
+pub fn write_sheet(names: &[u8], identifiers: &[u32], text: &mut [u8]) -> Result<Counts, Refusal>
     ensures { write_call names.now identifiers.now text.old ≡ record { outcome = result; text = text.new } }
 {
     let rows = identifiers.len();
     if !names_for(names, rows) {
-        return Outcome::Refused(refusals::NO_SHEET);
+        return Err(Refusal::NoSheet);
     }
     match room_left(names, identifiers, text.len()) {
-        Room::Short => Outcome::Refused(refusals::ROOM_SHORT),
+        Room::Short => Err(Refusal::RoomShort),
         Room::Left(_) => {
             let bytes = put_rows(names, identifiers, text);
-            Outcome::Done { rows, bytes }
+            Ok(Counts { rows, bytes })
         }
     }
 }

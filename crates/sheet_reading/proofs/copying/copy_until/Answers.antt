@@ -1,49 +1,42 @@
--- `copy_until`: the bytes up to i are copied, and the one that ends them is ahead. Assumes nothing.
-use mathlib.Core.Path.{refl}
+-- `copy_until`: the bytes before the one that ends them, and no others. Assumes nothing.
+use Rattle.std.proofs.Common.{rules, ◌∙◌, ap, ◌+◌, ◌-◌, ◌≤◌}
 use native.Mathlib.Omega.{arith}
-use lib.ListN.{length, length-set}
-use Rattle.sheet_reading.specs.Runs.{every_empty, every_between}
-use Rattle.sheet_reading.specs.Put.{test_for, copy_goes, copy_passes, copy_room, copy_none, copy_more}
-use borrow.Author.Rules.{rules}
+use lib.ListN.{length}
+use borrow.Rule.Slice.PartMut.{put_mid}
+use Rattle.sheet_reading.specs.Runs.{between, length_between, every_empty, RunTo}
+use Rattle.sheet_reading.specs.Put.{before, place_for, test_for, copy_goes, copy_room, copy_all, copied, mid_splice}
 use Rattle.sheet_reading.proofs.copying.copy_until.Goals as goal
 
-pub loop-i-init : goal.loop-i-init
-loop-i-init c = (search rules, every_empty (test_for c.args.stop) c.args.from c.args.text.now, copy_none c.args.names.now c.args.text.now c.args.at c.args.from, refl)
-
-pub bounds-text-i : goal.bounds-text-i
-bounds-text-i c = copy_goes c.args.text.now c.args.from c.args.at (length c.args.names.now) c.args.stop c.requires.0 c.requires.1 c.loop-i.i c.loop-i.invariant.0 c.loop-i.invariant.1
-
-pub bounds-text-i-in-loop-i : goal.bounds-text-i-in-loop-i
-bounds-text-i-in-loop-i c = copy_goes c.args.text.now c.args.from c.args.at (length c.args.names.now) c.args.stop c.requires.0 c.requires.1 c.loop-i.i c.loop-i.invariant.0 c.loop-i.invariant.1
-
-pub overflow_add-names : goal.overflow_add-names
-overflow_add-names c = let r = copy_room c.args.text.now c.args.from c.args.at (length c.args.names.now) c.args.stop c.requires.0 c.requires.1 c.loop-i.i c.loop-i.invariant.0 c.loop-i.invariant.1 c.loop-i-test.true in omega arith
-
-pub bounds-names-at : goal.bounds-names-at
-bounds-names-at c = let r = copy_room c.args.text.now c.args.from c.args.at (length c.args.names.now) c.args.stop c.requires.0 c.requires.1 c.loop-i.i c.loop-i.invariant.0 c.loop-i.invariant.1 c.loop-i-test.true in let k = c.loop-i.invariant.3 in omega arith
-
-pub overflow_add-i : goal.overflow_add-i
-overflow_add-i c = let r = copy_goes c.args.text.now c.args.from c.args.at (length c.args.names.now) c.args.stop c.requires.0 c.requires.1 c.loop-i.i c.loop-i.invariant.0 c.loop-i.invariant.1 in omega arith
-
-pub loop-i-smaller : goal.loop-i-smaller
-loop-i-smaller c = let r = copy_goes c.args.text.now c.args.from c.args.at (length c.args.names.now) c.args.stop c.requires.0 c.requires.1 c.loop-i.i c.loop-i.invariant.0 c.loop-i.invariant.1 in omega arith
-
-pub loop-i-preserved : goal.loop-i-preserved
-loop-i-preserved c =
-    let l = c.loop-i in
+pub run_end-end-requires-clause-within : goal.run_end-end-requires-clause-within
+run_end-end-requires-clause-within c =
     let a = c.args in
-    let g = copy_goes c.args.text.now c.args.from c.args.at (length c.args.names.now) c.args.stop c.requires.0 c.requires.1 c.loop-i.i c.loop-i.invariant.0 c.loop-i.invariant.1 in
-    let r = copy_room c.args.text.now c.args.from c.args.at (length c.args.names.now) c.args.stop c.requires.0 c.requires.1 c.loop-i.i c.loop-i.invariant.0 c.loop-i.invariant.1 c.loop-i-test.true in (
-      search rules,
-      every_between (test_for a.stop) a.from l.i a.text.now l.invariant.0 g l.invariant.1 (copy_passes c.args.text.now c.args.from c.args.at (length c.args.names.now) c.args.stop c.requires.0 c.requires.1 c.loop-i.i c.loop-i.invariant.0 c.loop-i.invariant.1 c.loop-i-test.true),
-      copy_more a.names.now l.names a.text.now a.at a.from l.i l.invariant.0 g r l.invariant.2,
-      simp length-set l.invariant.3,
-    )
+    let l = copy_goes a.text.now a.from a.at (length a.names.now) a.stop c.requires.0 c.requires.1 a.from (omega arith) (every_empty (test_for a.stop) a.from a.text.now) in
+    omega arith
 
-pub shape_of-names : goal.shape_of-names
-shape_of-names c = c.loop-i.invariant.3
+-- the bytes before the one that ends them, and the room that they take
+run_of : (c : goal.After-run_end-end) → RunTo (before c.args.stop) c.args.text.now c.args.from c.run_end-end.result
+unfolding before
+run_of c = c.run_end-end.ensures.runs (before c.args.stop) (λ b r h p. search rules)
+
+room_for : (c : goal.After-run_end-end) → c.args.at + (c.run_end-end.result - c.args.from) ≤ length c.args.names.now
+room_for c =
+    let a = c.args in
+    let n = length a.names.now in
+    let e = c.run_end-end.result in
+    copy_room a.text.now a.from a.at n a.stop c.requires.0 c.requires.1 e c.run_end-end.ensures.ahead (copy_all a.text.now a.from a.at n a.stop c.requires.0 c.requires.1 e (run_of c))
+
+pub overflow_add-at : goal.overflow_add-at
+overflow_add-at c = let r = room_for c in omega arith
+
+pub slice_bounds-copy_from_slice-end : goal.slice_bounds-copy_from_slice-end
+slice_bounds-copy_from_slice-end c = room_for c
 
 pub returns : goal.returns
+unfolding before
 returns c =
-    let l = c.loop-i in
-    record { from = l.invariant.0; within = copy_goes c.args.text.now c.args.from c.args.at (length c.args.names.now) c.args.stop c.requires.0 c.requires.1 c.loop-i.i c.loop-i.invariant.0 c.loop-i.invariant.1; passed = l.invariant.1; ended = c.loop-i-test.false; written = l.invariant.2 }
+    let a = c.args in
+    let e = c.run_end-end.result in
+    let i = c.run_end-end.ensures.inside in
+    let l = length_between a.from e a.text.now c.run_end-end.ensures.ahead i in
+    copied a.text.now a.from a.at (length a.names.now) a.stop c.requires.0 c.requires.1 e (c.run_end-end.ensures.runs (before a.stop) (λ b r h p. search rules)) a.names.now _
+    (ap (λ x. put_mid a.at (a.at + (e - a.from) - a.at) a.names.now x) c.copy_from_slice.ensures.after ∙ mid_splice a.names.now (between a.from e a.text.now) a.at (a.at + (e - a.from) - a.at) (omega arith))

@@ -1,43 +1,54 @@
 -- `quoted_name`: the bytes up to i are the name, with this many doubled quotes. Assumes nothing.
+use Rattle.std.proofs.Common.{rules, ◌≡◌, sym, ◌∙◌, get_or, length}
 use native.Mathlib.Omega.{arith}
+use Rattle.sheet_reading.specs.Kinds.{quoted_byte}
+use Rattle.sheet_reading.specs.Runs.{between, rest_first, rest_second, length_rest}
 use Rattle.sheet_reading.specs.Judged.{quoting_first, quoting_more, quoting_read, quoting_stops, quoting_shut, quoting_ends}
 use Rattle.sheet_reading.proofs.names.quoted_name.Goals as goal
 
-pub quoted_end-i-requires : goal.quoted_end-i-requires
-quoted_end-i-requires c = c.requires
-
 pub loop-i-init : goal.loop-i-init
-loop-i-init c = quoting_first c.args.text.now c.args.from c.quoted_end-i.result c.quoted_end-i.ensures
-
-pub overflow_add-i : goal.overflow_add-i
-overflow_add-i c = let w = c.loop-i.invariant.within in omega arith
-
-pub returns-then-text-i-ne-QUOTE : goal.returns-then-text-i-ne-QUOTE
-returns-then-text-i-ne-QUOTE c = quoting_stops c.args.text.now c.args.from c.loop-i.i c.loop-i.doubled c.loop-i.invariant (omega arith) c.if-text-i-ne-QUOTE.true
-
-pub overflow_sub-result : goal.overflow_sub-result
-overflow_sub-result c = let f = c.loop-i.invariant.from in omega arith
-
-pub overflow_sub-result-then-text-i-eq-COMMA : goal.overflow_sub-result-then-text-i-eq-COMMA
-overflow_sub-result-then-text-i-eq-COMMA c = let f = c.loop-i.invariant.from in let s = c.loop-i.invariant.size in omega arith
-
-pub returns-then-text-i-eq-COMMA : goal.returns-then-text-i-eq-COMMA
-returns-then-text-i-eq-COMMA c = quoting_read c.args.text.now c.args.from c.loop-i.i c.loop-i.doubled c.loop-i.invariant (omega arith) c.if-text-i-ne-QUOTE.false c.if-text-i-eq-COMMA.true
-
-pub returns-then-text-i-ne-QUOTE-2 : goal.returns-then-text-i-ne-QUOTE-2
-returns-then-text-i-ne-QUOTE-2 c = quoting_shut c.args.text.now c.args.from c.loop-i.i c.loop-i.doubled c.loop-i.invariant (omega arith) c.if-text-i-ne-QUOTE.false c.if-text-i-eq-COMMA.false c.if-text-i-ne-QUOTE-2.true
-
-pub overflow_add-doubled : goal.overflow_add-doubled
-overflow_add-doubled c = let s = c.loop-i.invariant.size in let w = c.loop-i.invariant.within in omega arith
-
-pub quoted_end-i-requires-in-loop-i : goal.quoted_end-i-requires-in-loop-i
-quoted_end-i-requires-in-loop-i c = (omega arith, c.requires.1)
-
-pub loop-i-smaller : goal.loop-i-smaller
-loop-i-smaller c = let f = c.quoted_end-i-in-loop-i.ensures.from in let w = c.quoted_end-i-in-loop-i.ensures.within in omega arith
+loop-i-init c = quoting_first c.args.text.now c.args.from c.run_end-i.result (c.run_end-i.ensures.runs quoted_byte (λ b r h p. search rules))
 
 pub loop-i-preserved : goal.loop-i-preserved
-loop-i-preserved c = quoting_more c.args.text.now c.args.from c.loop-i.i c.loop-i.doubled c.loop-i.invariant (omega arith) c.if-text-i-ne-QUOTE.false c.quoted_end-i-in-loop-i.result c.if-text-i-ne-QUOTE-2.false c.quoted_end-i-in-loop-i.ensures
+loop-i-preserved c =
+    let i = c.loop-i.i in
+    let t = c.args.text.now in
+    let l = length_rest i t in
+    let e : get_or (between i (length t) t) 0 0 ≡ 34 = search rules in
+    let f : get_or (between i (length t) t) 1 0 ≡ 34 = search rules in
+    quoting_more t c.args.from i c.loop-i.doubled c.loop-i.invariant (omega arith) (sym (rest_first i t) ∙ e) c.run_end-i-in-34.result (sym (rest_second i t) ∙ f) (c.run_end-i-in-34.ensures.runs quoted_byte (λ b r h p. search rules))
 
-pub returns : goal.returns
-returns c = quoting_ends c.args.text.now c.args.from c.loop-i.i c.loop-i.doubled c.loop-i.invariant (omega arith)
+pub returns-in-34-2 : goal.returns-in-34-2
+returns-in-34-2 c =
+    let i = c.loop-i.i in
+    let t = c.args.text.now in
+    let l = length_rest i t in
+    let e : get_or (between i (length t) t) 0 0 ≡ 34 = search rules in
+    let f : get_or (between i (length t) t) 1 0 ≡ 44 = search rules in
+    quoting_read t c.args.from i c.loop-i.doubled c.loop-i.invariant (omega arith) (sym (rest_first i t) ∙ e) (sym (rest_second i t) ∙ f)
+
+pub returns-in_default : goal.returns-in_default
+returns-in_default c =
+    let l = length_rest c.loop-i.i c.args.text.now in
+    quoting_ends c.args.text.now c.args.from c.loop-i.i c.loop-i.doubled c.loop-i.invariant (omega arith)
+
+pub returns-in_default-2 : goal.returns-in_default-2
+returns-in_default-2 c =
+    let i = c.loop-i.i in
+    let t = c.args.text.now in
+    let l = length_rest i t in
+    let e : get_or (between i (length t) t) 0 0 ≡ 34 = search rules in
+    let f : get_or (between i (length t) t) 1 0 ≡ 34 → ⊥ = search rules in
+    let g : get_or (between i (length t) t) 1 0 ≡ 44 → ⊥ = search rules in
+    quoting_shut t c.args.from i c.loop-i.doubled c.loop-i.invariant (omega arith) (sym (rest_first i t) ∙ e) (λ x. g (rest_second i t ∙ x)) (λ x. f (rest_second i t ∙ x))
+
+pub returns-in_default-3 : goal.returns-in_default-3
+returns-in_default-3 c =
+    let i = c.loop-i.i in
+    let t = c.args.text.now in
+    let l = length_rest i t in
+    let e : get_or (between i (length t) t) 0 0 ≡ 34 → ⊥ = search rules in
+    quoting_stops t c.args.from i c.loop-i.doubled c.loop-i.invariant (omega arith) (λ x. e (rest_first i t ∙ x))
+
+pub loop-i-smaller : goal.loop-i-smaller
+loop-i-smaller c = omega arith
