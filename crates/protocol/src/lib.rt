@@ -7,6 +7,7 @@ pub mod kinds;
 pub mod refusal;
 pub mod refusals;
 pub mod states;
+mod words;
 
 pub use refusal::Refusal;
 
