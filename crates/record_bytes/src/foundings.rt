@@ -20,9 +20,10 @@ pub fn fresh(words: &mut [u8], identifiers: &[u8], founder: Option<u32>) -> Resu
     if 64 < n {
         return Err(Refusal::IdentifierCount);
     }
-    let mut ids = [0u32; 64];
-    load(identifiers, &mut ids, n);
+    let mut room = [0u32; 64];
+    let ids = &mut room[..n];
+    load(identifiers, ids);
     let mut w = [0u32; RECORD_WORDS];
-    let r = founding::fresh(&mut w, &ids[..n], founder);
+    let r = founding::fresh(&mut w, ids, founder);
     finish_fresh(words, &w, r)
 }

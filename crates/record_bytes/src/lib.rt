@@ -12,7 +12,7 @@ ghost use Rattle.protocol.specs.Bytes.{step_bytes, owner_bytes};
 pub use crate::foundings::fresh;
 use crate::results::{finish, finish_owner};
 use protocol::Refusal;
-use protocol::form::RECORD_BYTES;
+use protocol::form::{RECORD_BYTES, RECORD_WORDS};
 use word_bytes::loaded;
 
 // One command on the record in the lent bytes. Only the record is loaded, since a step looks at nothing behind it.
@@ -25,7 +25,7 @@ pub fn step(words: &mut [u8], operation: u32, x: u32, y: u32, out: &mut [u8]) ->
     if words.len() < RECORD_BYTES {
         return Err(Refusal::RecordShort);
     }
-    let mut w = loaded(&words[..]);
+    let mut w = loaded::<RECORD_WORDS>(&words[..]);
     let r = steps::step(&mut w, operation, x, y);
     finish(words, out, &w, r)
 }
@@ -40,7 +40,7 @@ pub fn owner(words: &[u8], number: u32, out: &mut [u8]) -> Result<(), Refusal>
     if words.len() < RECORD_BYTES {
         return Err(Refusal::RecordShort);
     }
-    let w = loaded(words);
+    let w = loaded::<RECORD_WORDS>(words);
     let r = queries::owner(&w, number);
     finish_owner(out, r)
 }

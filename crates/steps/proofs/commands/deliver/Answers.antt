@@ -19,24 +19,24 @@ returns-then-not-both c =
     ap (written a.w.now) (deliver_4 a.w.now a.x a.y (sym c.both.ensures ∙ c.if-not-both.true))
 
 pub remove-requires : goal.remove-requires
-remove-requires c = (c.if-j-m.true, c.requires.waiting, c.requires.long)
+remove-requires c = (c.in-Some.ensures.1, c.requires.waiting, c.requires.long)
 
 pub settle-requires : goal.settle-requires
 settle-requires c =
     let a = c.args in
     let v = c.requires in
     let l = second_node a.w.now a.x a.y (sym c.both.ensures ∙ c.if-not-both.false) in
-    (omega (arith, c.if-j-m.true, v.waiting), omega (arith, v.nodes), omega (arith, v.long, c.remove.auto.w))
+    (omega (arith, c.in-Some.ensures.1, v.waiting), omega (arith, v.nodes), omega (arith, v.long, c.remove.auto.w))
 
-pub returns-then-j-m : goal.returns-then-j-m
+pub returns-in-Some : goal.returns-in-Some
 unfolding delivered
-returns-then-j-m c =
+returns-in-Some c =
     let a = c.args in
     let w = a.w.now in
-    let j = c.find-j.result in
+    let j = c.in-Some.j in
     let s = read w in
     let nodes = sym c.both.ensures ∙ c.if-not-both.false in
-    let lj = c.if-j-m.true in
+    let lj = c.in-Some.ensures.1 in
     let u = c.message_at-u in
     let h = c.row_of-h in
     let p = c.identifier_of-p in
@@ -47,7 +47,7 @@ returns-then-j-m c =
     ∙ ap (λ z. handle (identifier s z.pred) z g.result u.result) h.ensures
     ∙ ap (λ z. handle (identifier s (row s a.y).pred) (row s a.y) z u.result) g.ensures
     ∙ ap (λ z. handle (identifier s (row s a.y).pred) (row s a.y) (row s z.a) z) message_is in
-    ap (written w) (deliver_handled w a.x a.y nodes j c.find-j.ensures lj)
+    ap (written w) (deliver_handled w a.x a.y nodes j c.in-Some.ensures.0 lj)
     ∙ ap (λ z. written w (conclude (without_message s j) a.y z)) (sym handled ∙ c.in_ok-d.was)
     ∙ sym (settled_without_is w c.requires j a.y c.in_ok-d.d lj (second_node w a.x a.y nodes))
     ∙ ap (λ z. settled z (messages_in w - 1) a.y c.in_ok-d.d) (sym c.remove.ensures)
@@ -59,10 +59,10 @@ returns-in_err-d c =
     let refusal = err_from_is_err_and c.from_residual.result c.from_residual.ensures.1 in
     let a = c.args in
     let w = a.w.now in
-    let j = c.find-j.result in
+    let j = c.in-Some.j in
     let s = read w in
     let nodes = sym c.both.ensures ∙ c.if-not-both.false in
-    let lj = c.if-j-m.true in
+    let lj = c.in-Some.ensures.1 in
     let u = c.message_at-u in
     let h = c.row_of-h in
     let p = c.identifier_of-p in
@@ -73,7 +73,7 @@ returns-in_err-d c =
     ∙ ap (λ z. handle (identifier s z.pred) z g.result u.result) h.ensures
     ∙ ap (λ z. handle (identifier s (row s a.y).pred) (row s a.y) z u.result) g.ensures
     ∙ ap (λ z. handle (identifier s (row s a.y).pred) (row s a.y) (row s z.a) z) message_is in
-    ap (written w) (deliver_handled w a.x a.y nodes j c.find-j.ensures lj)
+    ap (written w) (deliver_handled w a.x a.y nodes j c.in-Some.ensures.0 lj)
     ∙ ap (λ z. written w (conclude (without_message s j) a.y z)) (sym handled ∙ c.in_err-d.was)
     ∙ ap (λ o. record { outcome = o; slice = w }) (sym (refusal.1 ∙ ap Err refusal.2))
 
@@ -82,4 +82,4 @@ unfolding written
 returns c =
     let a = c.args in
     let nodes = sym c.both.ensures ∙ c.if-not-both.false in
-    ap (written a.w.now) (deliver_9 a.w.now a.x a.y nodes (rw c.find-j.ensures at c.if-j-m.false))
+    ap (written a.w.now) (deliver_9 a.w.now a.x a.y nodes (omega (arith, c.in_default.ensures)))
