@@ -13,7 +13,7 @@ pub use founder::founding_node;
 use lists::both;
 use protocol::form::RECORD_WORDS;
 use protocol::{Answer, Founder, Outcome, refusals};
-use wellformed::repeated;
+use wellformed::all_differ;
 pub use writing::clear;
 
 // A ring founded by the node with the smallest identifier, wherever it stands in the list.
@@ -40,7 +40,7 @@ pub fn found(w: &mut [u32], identifiers: &[u32], founder: Founder) -> Outcome
     if !both(1 <= identifiers.len(), identifiers.len() <= 64) {
         return Outcome::Refused(refusals::IDENTIFIER_COUNT);
     }
-    if repeated(identifiers, identifiers.len()) != 0 {
+    if !all_differ(identifiers) {
         return Outcome::Refused(refusals::IDENTIFIER_TWICE);
     }
     let node = founding_node(founder, identifiers);
