@@ -175,8 +175,3 @@ filed_more f heads earlier i b F e size room = record {
   ];
   earlier_are = filled earlier i (get_or heads b 0) 0 (λ j. last f (bucket_of (f j)) j) room (filed_start f heads earlier i b F e) F.earlier_are;
 }
-
--- A test's answer as a number: 0 for yes, 1 for no, and any other where it was given up.
-pub record Verdict (r : ℕ) (b : Bool) : Type 0 where
-  pub yes : r ≡ 0 → b ≡ true
-  pub no : r ≡ 1 → b ≡ false

@@ -3,34 +3,33 @@
 // `rest` has what is left of each machine, `groups` the name of each card's group: those nine bits, and after a pass one more than its first card.
 ghost use Rattle.std.specs.Prelude.{◌≡◌, ℕ, ◌+◌, ◌/◌, ◌%◌, ◌≤◌, ◌<◌, nat_eq, length, get_or, set};
 ghost use Rattle.lists.specs.Basics.{when◌then◌else◌, table, distinct};
-ghost use Rattle.lists.specs.Merge.{merged};
 ghost use Rattle.protocol.specs.Cards.{most_cards, book_size, card_start};
-ghost use Rattle.card_checks.specs.Digits.{slot_count, Parted, Grouped};
+ghost use Rattle.card_checks.specs.Digits.{slot_count, Parted, Grouped, following};
 
-use lists::failure;
 use protocol::form::{CARD_WORDS, CARDS_AT};
 
 // A slot for each group and digit.
 const SLOTS: usize = 8208;
 
+// How many passes part cards with different machines.
+const MOST_PASSES: u32 = 6;
+
 // The lowest nine bits of the first m cards' machines, and what is left of them.
-fn cut_machines(k: &[u32], m: usize, rest: &mut [u32], groups: &mut [u32])
-    requires { (m ≤ most_cards) × (book_size ≤ length k.now) × (most_cards ≤ length rest.old) × (most_cards ≤ length groups.old) }
+fn cut_machines(k: &[u32], m: usize, rest: &mut [u32; 512], groups: &mut [u32; 512])
+    requires { (m ≤ most_cards) × (book_size ≤ length k.now) }
     ensures { ((j : ℕ) → j < m → get_or groups.new j 0 ≡ get_or k.now (card_start j) 0 % 512) × ((j : ℕ) → j < m → get_or rest.new j 0 ≡ get_or k.now (card_start j) 0 / 512) }
 {
-    let mut j = 0;
-    while j < m {
+    for j in 0..m {
         let machine = k[CARDS_AT + CARD_WORDS * j];
         groups[j] = machine % 512;
         rest[j] = machine / 512;
-        j += 1;
     }
 }
 
 // The first card that came to a slot, or card i where none did; each as one more than its place. Nothing is written to a slot that is taken: where
 // all cards come to the same one, each would have to wait for the word that the card before it wrote.
-fn first_come(slots: &mut [u16], slot: usize, i: usize) -> u16
-    requires { (slot < length slots.old) × (i < most_cards) }
+fn first_come(slots: &mut [u16; SLOTS], slot: usize, i: usize) -> u16
+    requires { (slot < slot_count) × (i < most_cards) }
     ensures { (result ≡ (when nat_eq (get_or slots.old slot 0) 0 then i + 1 else get_or slots.old slot 0)) × (slots.new ≡ set slots.old slot result) }
 {
     let seen = slots[slot];
@@ -42,56 +41,43 @@ fn first_come(slots: &mut [u16], slot: usize, i: usize) -> u16
     seen
 }
 
-// One pass over the first m cards. The slots come empty.
-fn part(rest: &mut [u32], groups: &mut [u32], slots: &mut [u16], m: usize)
-    requires { (m ≤ most_cards) × (m ≤ length rest.old) × (m ≤ length groups.old) × (length slots.old ≡ slot_count) × ((b : ℕ) → b < slot_count → get_or slots.old b 0 ≡ 0) × ((j : ℕ) → j < m → get_or groups.old j 0 ≤ most_cards) }
-    ensures { Parted m rest.old groups.old rest.new groups.new }
-{
-    let mut i = 0;
-    while i < m {
-        let left = rest[i];
-        let slot = (groups[i] * 16 + left % 16) as usize;
-        let first = first_come(slots, slot, i);
-        groups[i] = first as u32;
-        rest[i] = left / 16;
-        i += 1;
-    }
-}
-
-fn part_once(rest: &mut [u32], groups: &mut [u32], m: usize)
-    requires { (m ≤ most_cards) × (m ≤ length rest.old) × (m ≤ length groups.old) × ((j : ℕ) → j < m → get_or groups.old j 0 ≤ most_cards) }
+// One pass over the first m cards.
+fn part(rest: &mut [u32; 512], groups: &mut [u32; 512], m: usize)
+    requires { (m ≤ most_cards) × ((j : ℕ) → j < m → get_or groups.old j 0 ≤ most_cards) }
     ensures { Parted m rest.old groups.old rest.new groups.new }
 {
     let mut slots = [0u16; SLOTS];
-    part(rest, groups, &mut slots, m);
+    for i in 0..m {
+        let left = rest[i];
+        let slot = (groups[i] * 16 + left % 16) as usize;
+        let first = first_come(&mut slots, slot, i);
+        groups[i] = u32::from(first);
+        rest[i] = left / 16;
+    }
 }
 
-// 0 where each of the first m cards is the first of its group.
-fn followers(groups: &[u32], m: usize) -> u32
-    requires { (m ≤ most_cards) × (m ≤ length groups.now) }
-    ensures { result ≡ merged m (λ i. when nat_eq (get_or groups.now i 0) (i + 1) then 0 else 1) }
+// Whether each of the first m cards is the first of its group.
+fn all_lead(groups: &[u32; 512], m: usize) -> bool
+    requires { m ≤ most_cards }
+    ensures { result ≡ nat_eq (following m groups.now) 0 }
 {
-    let mut bad: u32 = 0;
-    let mut i = 0;
-    while i < m {
-        bad |= failure(groups[i] == (i + 1) as u32);
-        i += 1;
+    let mut ok = true;
+    for i in 0..m {
+        ok &= groups[i] == (i + 1) as u32;
     }
-    bad
+    ok
 }
 
 // Passes, until each card is the first of its group, but six at most: then the cards of a group have the same machine.
-fn part_all(rest: &mut [u32], groups: &mut [u32], m: usize) -> bool
-    requires { (m ≤ most_cards) × (m ≤ length rest.old) × (m ≤ length groups.old) × ((j : ℕ) → j < m → get_or groups.old j 0 ≤ most_cards) }
+fn part_all(rest: &mut [u32; 512], groups: &mut [u32; 512], m: usize) -> bool
+    requires { (m ≤ most_cards) × ((j : ℕ) → j < m → get_or groups.old j 0 ≤ most_cards) }
     ensures { (f : ℕ → ℕ) → Grouped f m 6 rest.old groups.old → result ≡ distinct (table m f) }
 {
-    let mut left: u32 = 6;
-    while 0 < left {
-        part_once(rest, groups, m);
-        if followers(groups, m) == 0 {
+    for pass in 0..MOST_PASSES {
+        part(rest, groups, m);
+        if all_lead(groups, m) {
             return true;
         }
-        left -= 1;
     }
     false
 }

@@ -10,12 +10,8 @@ pub(crate) fn machines_differ(k: &[u32], m: u32) -> bool
     requires { (m ≤ most_cards) × (book_size ≤ length k.now) }
     ensures { result ≡ distinct (table m (λ j. get_or k.now (card_start j) 0)) }
 {
-    let verdict = by_buckets(k, m as usize);
-    if verdict == 0 {
-        return true;
+    match by_buckets(k, m as usize) {
+        Some(differ) => differ,
+        None => by_digits(k, m as usize),
     }
-    if verdict == 1 {
-        return false;
-    }
-    by_digits(k, m as usize)
 }

@@ -10,7 +10,7 @@ ghost use Rattle.cardlayout.specs.Sound.{MarksForm};
 ghost use Rattle.card_checks.specs.Homes.{Copied};
 
 use crate::owners::{fill_reaches, gap};
-use lists::{both, failure, when};
+use lists::{failure, when};
 use protocol::form::{ROW_WORDS, ROWS_AT};
 
 // The place of pred in a row.
@@ -21,34 +21,38 @@ fn arc(member: bool, far: u32) -> u64
     ensures { (result ≡ (when member then far + 1 else 0)) × (result ≤ 4294967296) }
 {
     if member {
-        return far as u64 + 1;
+        return u64::from(far) + 1;
     }
     0
 }
 
 // The gaps back to the preds of the n nodes, and whether they are the members' reaches.
-fn by_preds(w: &[u32], names: &[u32], marks: &[u32], n: usize, reaches: &mut [u32]) -> bool
-    requires { (n ≤ most_nodes) × (record_size ≤ length w.now) × (most_nodes ≤ length names.now) × (length marks.now ≡ most_nodes) × (most_nodes ≤ length reaches.old) }
+fn by_preds(w: &[u32], names: &[u32; 64], marks: &[u32], n: usize, reaches: &mut [u32; 64]) -> bool
+    requires { (n ≤ most_nodes) × (record_size ≤ length w.now) × (length marks.now ≡ most_nodes) }
     ensures { result ≡ true → (ids : List ℕ) → Names ids → Copied names.now ids → length ids ≡ n → MarksForm n marks.now → (h : ℕ) → Marked marks.now h → get_or reaches.new h 0 ≡ reach_spec names.now marks.now h }
 {
     let mut strangers: u32 = 0;
     let mut circle: u64 = 0;
-    let mut h = 0;
-    while h < n {
+    for h in 0..n {
         let pred = (w[ROWS_AT + ROW_WORDS * h + PRED_AT] % 64) as usize;
         let member = marks[h] == 1;
         let far = gap(names[pred], names[h]);
         strangers |= when(member, failure(marks[pred] == 1));
         circle += arc(member, far);
         reaches[h] = far;
-        h += 1;
     }
-    both(strangers == 0, circle == 4294967296)
+    (strangers == 0) & (circle == 4294967296)
 }
 
 // The reach of each member of a ring of n nodes.
-pub(crate) fn member_reaches(w: &[u32], names: &[u32], marks: &[u32], n: usize, reaches: &mut [u32])
-    requires { (n ≤ most_nodes) × (record_size ≤ length w.now) × (length names.now ≡ most_nodes) × (length marks.now ≡ most_nodes) × (most_nodes ≤ length reaches.old) }
+pub(crate) fn member_reaches(
+    w: &[u32],
+    names: &[u32; 64],
+    marks: &[u32],
+    n: usize,
+    reaches: &mut [u32; 64],
+)
+    requires { (n ≤ most_nodes) × (record_size ≤ length w.now) × (length marks.now ≡ most_nodes) }
     ensures { (ids : List ℕ) → Names ids → Copied names.now ids → length ids ≡ n → MarksForm n marks.now → (h : ℕ) → Marked marks.now h → get_or reaches.new h 0 ≡ reach_spec names.now marks.now h }
 {
     if by_preds(w, names, marks, n, reaches) {

@@ -47,7 +47,7 @@ every_and p q l =
     (λ k x m. (k.0 x m, k.1 x m))
     (λ k. ((λ x m. (k x m).0), λ x m. (k x m).1)))
 
-every_last : {A : Type 0} (q : A → Bool) (l : List A) (x : A) → every q (l ++ (x ∷ [])) ≡ (every q l && q x)
+pub every_last : {A : Type 0} (q : A → Bool) (l : List A) (x : A) → every q (l ++ (x ∷ [])) ≡ (every q l && q x)
 unfolding every
 every_last q l x = every_append q l (x ∷ []) ∙ ap (λ z. every q l && z) (and_true (q x))
 

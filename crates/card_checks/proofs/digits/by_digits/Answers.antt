@@ -7,7 +7,7 @@ use borrow.Author.Rules.{rules}
 use Rattle.card_checks.proofs.digits.by_digits.Goals as goal
 
 pub part_all-requires : goal.part_all-requires
-part_all-requires c = (search rules, search rules, search rules, λ j l. omega (arith, c.cut_machines.ensures.0 j l))
+part_all-requires c = (search rules, λ j l. omega (arith, c.cut_machines.ensures.0 j l))
 
 pub returns : goal.returns
 returns c = let cut = c.cut_machines.ensures in

@@ -3,40 +3,37 @@ use borrow.Author.Rules.{rules}
 use mathlib.Core.Path.{refl, sym, subst}
 use Prim.Native.Nat.{◌+◌, ◌*◌, ◌/◌, ◌%◌}
 use native.Mathlib.Omega.{arith}
-use lib.ListN.{get_or, set, length-set}
+use lib.ListN.{get_or, set, get_or-replicate}
 use Rattle.card_checks.specs.Digits.{Parting, parting_none, parting_more, parting_all, slot_below}
 use Rattle.card_checks.proofs.digits.part.Goals as goal
 
 pub loop-i-init : goal.loop-i-init
-loop-i-init c = (search rules, refl, refl, refl, parting_none c.args.m c.args.rest.now c.args.groups.now c.args.slots.now c.requires.4)
+loop-i-init c = (search rules, parting_none c.args.m c.args.rest.now c.args.groups.now _ (λ b l. get_or-replicate 8208 b 0 0 l))
 
 pub overflow_mul-slot : goal.overflow_mul-slot
-overflow_mul-slot c = let l = c.loop-i in omega (arith, slot_below c.args.m c.args.rest.now c.args.groups.now l.i l.rest l.groups l.slots l.invariant.4 (omega arith) c.requires.5)
+overflow_mul-slot c = let l = c.loop-i in omega (arith, slot_below c.args.m c.args.rest.now c.args.groups.now l.i l.rest l.groups l.slots l.invariant.1 (omega arith) c.requires.1)
 
 pub overflow_add-slot : goal.overflow_add-slot
-overflow_add-slot c = let l = c.loop-i in omega (arith, slot_below c.args.m c.args.rest.now c.args.groups.now l.i l.rest l.groups l.slots l.invariant.4 (omega arith) c.requires.5)
+overflow_add-slot c = let l = c.loop-i in omega (arith, slot_below c.args.m c.args.rest.now c.args.groups.now l.i l.rest l.groups l.slots l.invariant.1 (omega arith) c.requires.1)
 
 pub overflow_cast-slot : goal.overflow_cast-slot
-overflow_cast-slot c = let l = c.loop-i in omega (arith, slot_below c.args.m c.args.rest.now c.args.groups.now l.i l.rest l.groups l.slots l.invariant.4 (omega arith) c.requires.5)
+overflow_cast-slot c = let l = c.loop-i in omega (arith, slot_below c.args.m c.args.rest.now c.args.groups.now l.i l.rest l.groups l.slots l.invariant.1 (omega arith) c.requires.1)
 
 pub first_come-first-requires : goal.first_come-first-requires
 first_come-first-requires c = let l = c.loop-i in
-    let b = slot_below c.args.m c.args.rest.now c.args.groups.now l.i l.rest l.groups l.slots l.invariant.4 (omega arith) c.requires.5 in
-    (omega (arith, b, l.invariant.3, c.requires.3), search rules)
+    let b = slot_below c.args.m c.args.rest.now c.args.groups.now l.i l.rest l.groups l.slots l.invariant.1 (omega arith) c.requires.1 in
+    (b, search rules)
 
 pub loop-i-preserved : goal.loop-i-preserved
 loop-i-preserved c = let l = c.loop-i in
     let f = c.first_come-first in
-    let b = slot_below c.args.m c.args.rest.now c.args.groups.now l.i l.rest l.groups l.slots l.invariant.4 (omega arith) c.requires.5 in (
-      search rules,
-      simp length-set l.invariant.1,
-      simp length-set l.invariant.2,
-      search rules,
-      subst (λ z. Parting c.args.m (l.i + 1) c.args.rest.now c.args.groups.now (set l.rest l.i (get_or l.rest l.i 0 / 16)) (set l.groups l.i f.result) z) (sym f.ensures.1)
-          (parting_more c.args.m c.args.rest.now c.args.groups.now l.i (get_or l.groups l.i 0 * 16 + get_or l.rest l.i 0 % 16) f.result l.rest l.groups l.slots l.invariant.4
-          (omega arith) (omega arith) (omega arith) (omega (arith, l.invariant.3, c.requires.3)) b refl f.ensures.0),
-    )
+    let b = slot_below c.args.m c.args.rest.now c.args.groups.now l.i l.rest l.groups l.slots l.invariant.1 (omega arith) c.requires.1 in
+    let made : Parting c.args.m (l.i + 1) c.args.rest.now c.args.groups.now (set l.rest l.i (get_or l.rest l.i 0 / 16)) (set l.groups l.i f.result) f.new.slots =
+    subst (λ z. Parting c.args.m (l.i + 1) c.args.rest.now c.args.groups.now (set l.rest l.i (get_or l.rest l.i 0 / 16)) (set l.groups l.i f.result) z) (sym f.ensures.1)
+    (parting_more c.args.m c.args.rest.now c.args.groups.now l.i (get_or l.groups l.i 0 * 16 + get_or l.rest l.i 0 % 16) f.result l.rest l.groups l.slots l.invariant.1
+    (omega arith) (omega arith) (omega arith) (omega arith) b refl f.ensures.0) in
+    (search rules, subst (λ z. Parting c.args.m (l.i + 1) c.args.rest.now c.args.groups.now (set l.rest l.i (get_or l.rest l.i 0 / 16)) (set l.groups l.i z) f.new.slots) (sym c.from.ensures) made)
 
 pub returns : goal.returns
 returns c = let l = c.loop-i in
-    parting_all c.args.m c.args.rest.now c.args.groups.now l.i l.rest l.groups l.slots l.invariant.4 (omega arith)
+    parting_all c.args.m c.args.rest.now c.args.groups.now l.i l.rest l.groups l.slots l.invariant.1 (omega arith)

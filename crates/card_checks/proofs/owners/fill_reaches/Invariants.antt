@@ -1,12 +1,9 @@
 -- `fill_reaches`: the table is right below h. Assumes nothing.
 use mathlib.Core.Path.{◌≡◌}
-use Prim.Native.Nat.{ℕ, ◌≤◌, ◌<◌, ◌-◌}
-use lib.ListN.{length, get_or}
+use Prim.Native.Nat.{ℕ, ◌<◌}
+use lib.ListN.{get_or}
 use Rattle.cardlayout.specs.Reach.{reach}
 use Rattle.card_checks.proofs.owners.fill_reaches.Given as goal
 
 abbrev pub invariant-loop-h : goal.invariant-loop-h
-invariant-loop-h l = (l.h ≤ l.n) × (length l.reaches ≡ length l.initial.reaches) × ((k : ℕ) → k < l.h → get_or l.reaches k 0 ≡ reach l.names l.marks k)
-
-abbrev pub decreases-loop-h : goal.decreases-loop-h
-decreases-loop-h l = l.n - l.h
+invariant-loop-h l = ((k : ℕ) → k < l.h → get_or l.reaches k 0 ≡ reach l.names l.marks k)

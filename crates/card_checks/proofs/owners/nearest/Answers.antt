@@ -1,5 +1,4 @@
 -- `nearest`: no node before m is at that distance. Assumes nothing.
-use borrow.Author.Rules.{rules}
 use mathlib.Core.Path.{◌≡◌, sym, ◌∙◌, ap}
 use mathlib.Core.Bool.{◌&&◌}
 use native.Mathlib.Omega.{arith}
@@ -11,25 +10,25 @@ use Rattle.card_checks.specs.Homes.{is_close, nearest}
 use Rattle.card_checks.proofs.owners.nearest.Goals as goal
 
 pub loop-m-init : goal.loop-m-init
-loop-m-init c = (search rules, first_none _)
+loop-m-init c = first_none _
 
-pub returns-then-both : goal.returns-then-both
+pub returns-then-marks-m : goal.returns-then-marks-m
 unfolding is_close nearest
-returns-then-both c = let a = c.args in
+returns-then-marks-m c = let a = c.args in
     let l = c.loop-m in
     let d = c.closest-d in
     let n = length a.marks.now in
-    let t = ap (λ z. nat_eq (get_or a.marks.now l.m 0) 1 && nat_le z d.result) (sym c.distance.ensures) ∙ sym c.both.ensures ∙ c.if-both.true in
+    let t = ap (λ z. nat_eq (get_or a.marks.now l.m 0) 1 && nat_le z d.result) (sym c.distance.ensures) ∙ c.if-marks-m.true in
     sym (ap (λ z. first (is_close a.names.now a.marks.now a.v z) n) (sym d.ensures)
-    ∙ first_at (is_close a.names.now a.marks.now a.v d.result) n l.m l.invariant.1 t (omega arith))
+    ∙ first_at (is_close a.names.now a.marks.now a.v d.result) n l.m l.invariant t (omega arith))
 
 pub loop-m-preserved : goal.loop-m-preserved
 unfolding is_close
 loop-m-preserved c = let a = c.args in
     let l = c.loop-m in
     let d = c.closest-d in
-    let t = ap (λ z. nat_eq (get_or a.marks.now l.m 0) 1 && nat_le z d.result) (sym c.distance.ensures) ∙ sym c.both.ensures ∙ c.if-both.false in
-    (search rules, first_more (is_close a.names.now a.marks.now a.v d.result) l.m l.invariant.1 t)
+    let t = ap (λ z. nat_eq (get_or a.marks.now l.m 0) 1 && nat_le z d.result) (sym c.distance.ensures) ∙ c.if-marks-m.false in
+    first_more (is_close a.names.now a.marks.now a.v d.result) l.m l.invariant t
 
 pub returns : goal.returns
 unfolding nearest
@@ -37,5 +36,5 @@ returns c = let a = c.args in
     let l = c.loop-m in
     let d = c.closest-d in
     let e : l.m ≡ length a.marks.now = omega arith in
-    sym (ap (λ z. first (is_close a.names.now a.marks.now a.v z) (length a.marks.now)) (sym d.ensures)
-    ∙ ap (first (is_close a.names.now a.marks.now a.v d.result)) (sym e) ∙ l.invariant.1)
+    sym e ∙ sym (ap (λ z. first (is_close a.names.now a.marks.now a.v z) (length a.marks.now)) (sym d.ensures)
+    ∙ ap (first (is_close a.names.now a.marks.now a.v d.result)) (sym e) ∙ l.invariant)
