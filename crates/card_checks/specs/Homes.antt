@@ -22,7 +22,7 @@ use Rattle.layout.specs.Words.{row_of_read, row_beyond, count_of_read}
 use Rattle.layout.specs.Form.{Form}
 use Rattle.layout.specs.Owners.{Names, owner_is}
 use Rattle.cardlayout.specs.Marks.{home_is, Marked, mem_marked, marked_mem}
-use Rattle.cardlayout.specs.Reach.{top, gap, least, least_says, gap_to, reach, reach_owns, owns_reach, owner_of}
+use Rattle.cardlayout.specs.Reach.{top, gap, least, least_more, least_says, gap_to, reach, reach_owns, owns_reach, owner_of}
 use Rattle.cardlayout.specs.Sound.{MarksForm}
 
 -- The identifiers of the record, copied side by side.
@@ -187,8 +187,13 @@ homes_law ids names marks N C M size reaches t k small m r e =
     (λ j. home_test ids names marks N C M size reaches t (get_or k (card_start j) 0) (get_or k (card_start j + 3) 0) (small (card_start j)))
 
 -- the lesser of two numbers, as a choice
-pub lesser : (a b : ℕ) → min a b ≡ (when nat_le a b then a else b)
+lesser : (a b : ℕ) → min a b ≡ (when nat_le a b then a else b)
 lesser a b = choose (λ z. min a b ≡ z) (nat_le a b) a b (λ t. let l = leb→le a b t in omega arith) (λ t. let l = nleb→lt a b t in omega arith)
+
+-- the least so far, and one number more
+pub least_next : (f : ℕ → ℕ) (n a b : ℕ) → a ≡ least f n → b ≡ f n → min a b ≡ least f (n + 1)
+least_next f n a b p q =
+    lesser a b ∙ ap (λ z. when nat_le a z then a else z) q ∙ ap (λ z. when nat_le z (f n) then z else f n) p ∙ sym (least_more f n)
 
 pub get_or_zeros : (n i : ℕ) → ◌≡◌ {A = ℕ} (get_or (replicate n 0) i 0) 0
 get_or_zeros zero i = refl

@@ -21,9 +21,8 @@ fn homes_ok(w: &[u32], k: &[u32], n: u32, m: u32, names: &[u32; 64]) -> bool
     requires { (n ≤ most_nodes) × (record_size ≤ length w.now) × (m ≤ most_cards) × (book_size ≤ length k.now) }
     ensures { (ids : List ℕ) → Names ids → Copied names.now ids → length ids ≡ n → MarksForm n (marks_in k.now) → result ≡ every (λ c. nat_eq c.hub (home ids (marked (marks_in k.now)) c.machine)) (table m (λ j. card_from k.now (card_start j))) }
 {
-    let mut reaches = [0u32; 64];
     let marks = &k[MARKS_AT..CARDS_AT];
-    member_reaches(w, names, marks, n as usize, &mut reaches);
+    let reaches = member_reaches(w, names, marks, n as usize);
     all_home(k, m as usize, names, marks, &reaches)
 }
 

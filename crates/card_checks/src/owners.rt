@@ -1,12 +1,12 @@
 // Who owns a machine among the members: tables of the identifiers and of how far each node's numbers reach back.
-ghost use Rattle.std.specs.Prelude.{◌≡◌, ℕ, ◌+◌, ◌≤◌, ◌<◌, length, get_or};
+ghost use Rattle.std.specs.Prelude.{◌≡◌, ℕ, ◌+◌, ◌≤◌, ◌<◌, nat_eq, length, get_or};
 ghost use Rattle.lists.specs.Basics.{when◌then◌else◌, every, table};
 ghost use Rattle.protocol.specs.Record.{most_nodes, read};
 ghost use Rattle.protocol.specs.WellFormed.{identifiers};
 ghost use Rattle.protocol.specs.Cards.{most_cards, book_size, card_start, card_from};
 ghost use Rattle.layout.specs.Form.{Valid};
-ghost use Rattle.cardlayout.specs.Reach.{gap as gap_spec, reach as reach_spec};
-ghost use Rattle.card_checks.specs.Homes.{Copied, at_home, closest as closest_spec, nearest as nearest_spec};
+ghost use Rattle.cardlayout.specs.Reach.{top, least, gap as gap_spec, reach as reach_spec};
+ghost use Rattle.card_checks.specs.Homes.{Copied, at_home, nearest as nearest_spec};
 
 use clockwise::distance;
 use protocol::form::{CARD_WORDS, CARDS_AT, ROW_WORDS, ROWS_AT};
@@ -32,27 +32,39 @@ pub(crate) fn gap(a: u32, b: u32) -> u32
     distance(a, b) - 1
 }
 
+// The least of what `far` says of the marked nodes' identifiers, and of 2^32 - 1. (Nodes without a mark have 2^32 - 1, so that the loop has no
+// branch, and is vectorised.)
+fn least<F: Fn(u32) -> u32>(names: &[u32], marks: &[u32], far: F) -> u32
+    requires callable { F.IsAlwaysCallable far }
+    requires long { length marks.now ≤ length names.now }
+    ensures { (h : ℕ → ℕ) → ((x y : ℕ) → x < 4294967296 → F.post far x y → y ≡ h x) → result ≡ least (λ m. when nat_eq (get_or marks.now m 0) 1 then h (get_or names.now m 0) else top) (length marks.now) }
+{
+    let mut best = TOP;
+    for m in 0..marks.len() {
+        best = best.min(pick_word(marks[m] == 1, far(names[m]), TOP));
+    }
+    best
+}
+
 // How far node h's numbers reach back among the marked nodes.
 pub fn reach(names: &[u32], marks: &[u32], h: usize) -> u32
     requires { (h < length names.now) × (length marks.now ≤ length names.now) }
     ensures { result ≡ reach_spec names.now marks.now h }
 {
     let id = names[h];
-    let mut best = TOP;
-    for m in 0..marks.len() {
-        best = best.min(pick_word(marks[m] == 1, gap(names[m], id), TOP));
-    }
-    best
+    least(names, marks, |name| gap(name, id))
 }
 
 // The reach of the first n nodes.
-pub(crate) fn fill_reaches(names: &[u32; 64], marks: &[u32], n: usize, reaches: &mut [u32; 64])
+pub(crate) fn reaches_of(names: &[u32; 64], marks: &[u32], n: usize) -> [u32; 64]
     requires { (n ≤ most_nodes) × (length marks.now ≤ most_nodes) }
-    ensures { (h : ℕ) → h < n → get_or reaches.new h 0 ≡ reach_spec names.now marks.now h }
+    ensures { (h : ℕ) → h < n → get_or result h 0 ≡ reach_spec names.now marks.now h }
 {
+    let mut reaches = [0u32; 64];
     for h in 0..n {
         reaches[h] = reach(names, marks, h);
     }
+    reaches
 }
 
 // Whether the card at a place is with its owner.
@@ -84,24 +96,12 @@ pub(crate) fn all_home(
     ok
 }
 
-// The distance from v to the nearest marked node.
-fn closest(names: &[u32], marks: &[u32], v: u32) -> u32
-    requires { length marks.now ≤ length names.now }
-    ensures { result ≡ closest_spec names.now marks.now v }
-{
-    let mut best = TOP;
-    for m in 0..marks.len() {
-        best = best.min(pick_word(marks[m] == 1, distance(v, names[m]), TOP));
-    }
-    best
-}
-
 // The nearest marked node.
 pub fn nearest(names: &[u32], marks: &[u32], v: u32) -> u32
     requires { (length marks.now ≤ length names.now) × (length marks.now ≤ most_nodes) }
     ensures { result ≡ nearest_spec names.now marks.now v }
 {
-    let d = closest(names, marks, v);
+    let d = least(names, marks, |name| distance(v, name));
     for m in 0..marks.len() {
         if (marks[m] == 1) & (distance(v, names[m]) <= d) {
             return m as u32;

@@ -1,6 +1,6 @@
 // Reaches out of the record: each member's gap back to its pred. Where these preds are members, and the gaps go round the circle just once, none of
 // them is too wide (cardlayout/specs/Circle.antt). So it is in every record that a ring reaches, but where a JOINPOINT waits: then they are searched.
-ghost use Rattle.std.specs.Prelude.{◌≡◌, true, List, ℕ, ◌+◌, ◌≤◌, length, get_or};
+ghost use Rattle.std.specs.Prelude.{◌≡◌, List, IfSome, ℕ, ◌+◌, ◌≤◌, length, get_or};
 ghost use Rattle.lists.specs.Basics.{when◌then◌else◌};
 ghost use Rattle.protocol.specs.Record.{most_nodes, record_size};
 ghost use Rattle.layout.specs.Owners.{Names};
@@ -9,7 +9,7 @@ ghost use Rattle.cardlayout.specs.Reach.{reach as reach_spec};
 ghost use Rattle.cardlayout.specs.Sound.{MarksForm};
 ghost use Rattle.card_checks.specs.Homes.{Copied};
 
-use crate::owners::{fill_reaches, gap};
+use crate::owners::{gap, reaches_of};
 use lists::{failure, when};
 use protocol::form::{ROW_WORDS, ROWS_AT};
 
@@ -26,11 +26,12 @@ fn arc(member: bool, far: u32) -> u64
     0
 }
 
-// The gaps back to the preds of the n nodes, and whether they are the members' reaches.
-fn by_preds(w: &[u32], names: &[u32; 64], marks: &[u32], n: usize, reaches: &mut [u32; 64]) -> bool
+// The gaps back to the preds of the n nodes, where they are the members' reaches.
+fn by_preds(w: &[u32], names: &[u32; 64], marks: &[u32], n: usize) -> Option<[u32; 64]>
     requires { (n ≤ most_nodes) × (record_size ≤ length w.now) × (length marks.now ≡ most_nodes) }
-    ensures { result ≡ true → (ids : List ℕ) → Names ids → Copied names.now ids → length ids ≡ n → MarksForm n marks.now → (h : ℕ) → Marked marks.now h → get_or reaches.new h 0 ≡ reach_spec names.now marks.now h }
+    ensures { IfSome result (λ reaches. (ids : List ℕ) → Names ids → Copied names.now ids → length ids ≡ n → MarksForm n marks.now → (h : ℕ) → Marked marks.now h → get_or reaches h 0 ≡ reach_spec names.now marks.now h) }
 {
+    let mut reaches = [0u32; 64];
     let mut strangers: u32 = 0;
     let mut circle: u64 = 0;
     for h in 0..n {
@@ -41,22 +42,19 @@ fn by_preds(w: &[u32], names: &[u32; 64], marks: &[u32], n: usize, reaches: &mut
         circle += arc(member, far);
         reaches[h] = far;
     }
-    (strangers == 0) & (circle == 4294967296)
+    if (strangers == 0) & (circle == 4294967296) {
+        return Some(reaches);
+    }
+    None
 }
 
 // The reach of each member of a ring of n nodes.
-pub(crate) fn member_reaches(
-    w: &[u32],
-    names: &[u32; 64],
-    marks: &[u32],
-    n: usize,
-    reaches: &mut [u32; 64],
-)
+pub(crate) fn member_reaches(w: &[u32], names: &[u32; 64], marks: &[u32], n: usize) -> [u32; 64]
     requires { (n ≤ most_nodes) × (record_size ≤ length w.now) × (length marks.now ≡ most_nodes) }
-    ensures { (ids : List ℕ) → Names ids → Copied names.now ids → length ids ≡ n → MarksForm n marks.now → (h : ℕ) → Marked marks.now h → get_or reaches.new h 0 ≡ reach_spec names.now marks.now h }
+    ensures { (ids : List ℕ) → Names ids → Copied names.now ids → length ids ≡ n → MarksForm n marks.now → (h : ℕ) → Marked marks.now h → get_or result h 0 ≡ reach_spec names.now marks.now h }
 {
-    if by_preds(w, names, marks, n, reaches) {
-        return;
+    match by_preds(w, names, marks, n) {
+        Some(reaches) => reaches,
+        None => reaches_of(names, marks, n),
     }
-    fill_reaches(names, marks, n, reaches);
 }

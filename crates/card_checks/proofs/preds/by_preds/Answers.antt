@@ -1,6 +1,7 @@
 -- `by_preds`: of the first h nodes, the gaps, what they add up to, and whether a member's pred is none. Assumes nothing.
-use mathlib.Core.Path.{◌≡◌, sym, ◌∙◌, ap, ap₂}
+use mathlib.Core.Path.{◌≡◌, refl, sym, ◌∙◌, ap, ap₂}
 use Prim.Native.Nat.{◌+◌}
+use borrow.Author.Rules.{rules}
 use native.Mathlib.Omega.{arith}
 use Rattle.std.specs.Prelude.{nat_eq}
 use lib.Dec.{eqb→eq}
@@ -14,10 +15,10 @@ use Rattle.card_checks.specs.Preds.{gap_back, strange, arc_back, preds_law}
 use Rattle.card_checks.proofs.preds.by_preds.Goals as goal
 
 pub loop-h-init : goal.loop-h-init
-loop-h-init c = ((λ j l. absurd (omega arith)), sym (merged_none _), sym (total_none _), omega arith)
+loop-h-init c = (refl, (λ j l. absurd (omega arith)), sym (merged_none _), sym (total_none _), omega arith)
 
 pub overflow_add-circle : goal.overflow_add-circle
-overflow_add-circle c = let l = c.loop-h in omega (arith, l.invariant.3, c.arc-circle.ensures.1)
+overflow_add-circle c = let l = c.loop-h in omega (arith, l.invariant.4, c.arc-circle.ensures.1)
 
 pub loop-h-preserved : goal.loop-h-preserved
 loop-h-preserved c = let l = c.loop-h in
@@ -26,19 +27,20 @@ loop-h-preserved c = let l = c.loop-h in
     let names = a.names.now in
     let marks = a.marks.now in
     let far = c.gap-far in (
-      filled l.reaches l.h far.result 0 (gap_back w names) (omega arith) far.ensures l.invariant.0,
-      rw (merged_more, ← l.invariant.1, c.when-strangers.ensures, c.failure.ensures),
-      sym (total_more (arc_back w names marks) l.h ∙ ap₂ (λ x y. x + y) (sym l.invariant.2) (sym (c.arc-circle.ensures.0 ∙ ap (λ z. when nat_eq (get_or marks l.h 0) 1 then z + 1 else 0) far.ensures))),
-      omega (arith, l.invariant.3, c.arc-circle.ensures.1),
+      search rules,
+      filled l.reaches l.h far.result 0 (gap_back w names) (omega arith) far.ensures l.invariant.1,
+      rw (merged_more, ← l.invariant.2, c.when-strangers.ensures, c.failure.ensures),
+      sym (total_more (arc_back w names marks) l.h ∙ ap₂ (λ x y. x + y) (sym l.invariant.3) (sym (c.arc-circle.ensures.0 ∙ ap (λ z. when nat_eq (get_or marks l.h 0) 1 then z + 1 else 0) far.ensures))),
+      omega (arith, l.invariant.4, c.arc-circle.ensures.1),
     )
 
-pub returns : goal.returns
-returns c = let l = c.loop-h in
+pub returns-then-strangers-circle : goal.returns-then-strangers-circle
+returns-then-strangers-circle c = let l = c.loop-h in
     let n = c.args.n in
     let marks = c.args.marks.now in
     let e : l.h ≡ n = omega arith in
-    λ t ids N C size M. let both = true_T _ t in
+    λ ids N C size M. let both = true_T _ c.if-strangers-circle.true in
     preds_law ids c.args.names.now marks c.args.w.now l.reaches n N C size M c.requires.2 c.requires.0
-    (λ h k. l.invariant.0 h (omega arith))
-    (ap (λ z. merged z (strange c.args.w.now marks)) (sym e) ∙ sym l.invariant.1 ∙ eqb→eq l.strangers 0 (and_left (nat_eq l.strangers 0) _ both))
-    (ap (total (arc_back c.args.w.now c.args.names.now marks)) (sym e) ∙ sym l.invariant.2 ∙ eqb→eq l.circle 4294967296 (and_right (nat_eq l.strangers 0) _ both))
+    (λ h k. l.invariant.1 h (omega arith))
+    (ap (λ z. merged z (strange c.args.w.now marks)) (sym e) ∙ sym l.invariant.2 ∙ eqb→eq l.strangers 0 (and_left (nat_eq l.strangers 0) _ both))
+    (ap (total (arc_back c.args.w.now c.args.names.now marks)) (sym e) ∙ sym l.invariant.3 ∙ eqb→eq l.circle 4294967296 (and_right (nat_eq l.strangers 0) _ both))

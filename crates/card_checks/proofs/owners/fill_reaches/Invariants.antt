@@ -1,9 +1,0 @@
--- `fill_reaches`: the table is right below h. Assumes nothing.
-use mathlib.Core.Path.{◌≡◌}
-use Prim.Native.Nat.{ℕ, ◌<◌}
-use lib.ListN.{get_or}
-use Rattle.cardlayout.specs.Reach.{reach}
-use Rattle.card_checks.proofs.owners.fill_reaches.Given as goal
-
-abbrev pub invariant-loop-h : goal.invariant-loop-h
-invariant-loop-h l = ((k : ℕ) → k < l.h → get_or l.reaches k 0 ≡ reach l.names l.marks k)
