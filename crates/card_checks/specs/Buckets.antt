@@ -13,11 +13,16 @@ use Rattle.lists.specs.Choice.{choose}
 use Rattle.lists.specs.Members.{mem_at, place, filled}
 use Rattle.lists.specs.Tests.{says_every, says_not, says_eq, T_true, →eqb}
 use Rattle.lists.specs.Blocks.{length_table, get_or_table}
+use Rattle.protocol.specs.Cards.{card_start}
 use Rattle.lists.specs.Merge.{merged, merged_test, merged_next, failure_test, unlike}
 
 T_false : (b : Bool) → T (not b) → b ≡ false
 T_false true t = absurd t
 T_false false t = refl
+
+-- the machine of card j
+abbrev pub machine_of : List ℕ → ℕ → ℕ
+machine_of k j = get_or k (card_start j) 0
 
 -- the bucket of a machine, one of 1024
 abbrev pub buckets : ℕ

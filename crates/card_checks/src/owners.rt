@@ -3,13 +3,15 @@ ghost use Rattle.std.specs.Prelude.{◌≡◌, ℕ, ◌+◌, ◌≤◌, ◌<◌,
 ghost use Rattle.lists.specs.Basics.{when◌then◌else◌, every, table};
 ghost use Rattle.protocol.specs.Record.{most_nodes, read};
 ghost use Rattle.protocol.specs.WellFormed.{identifiers};
-ghost use Rattle.protocol.specs.Cards.{most_cards, book_size, card_start, card_from};
+ghost use Rattle.protocol.specs.Cards.{card_start, card_from};
 ghost use Rattle.layout.specs.Form.{Valid};
 ghost use Rattle.cardlayout.specs.Reach.{top, least, gap as gap_spec, reach as reach_spec};
+ghost use Rattle.card_checks.specs.Buckets.{machine_of};
 ghost use Rattle.card_checks.specs.Homes.{Copied, at_home, nearest as nearest_spec};
 
+use crate::cards::Cards;
 use clockwise::distance;
-use protocol::form::{CARD_WORDS, CARDS_AT, ROW_WORDS, ROWS_AT};
+use protocol::form::{ROW_WORDS, ROWS_AT};
 
 const TOP: u32 = 4294967295;
 
@@ -67,31 +69,25 @@ pub(crate) fn reaches_of(names: &[u32; 64], marks: &[u32], n: usize) -> [u32; 64
     reaches
 }
 
-// Whether the card at a place is with its owner.
-fn at_home(k: &[u32], at: usize, names: &[u32; 64], marks: &[u32], reaches: &[u32; 64]) -> bool
-    requires { (at + 4 ≤ length k.now) × (most_nodes ≤ length marks.now) }
-    ensures { result ≡ at_home names.now marks.now reaches.now (get_or k.now at 0) (get_or k.now (at + 3) 0) }
+// Whether card j is with its owner.
+fn at_home(cards: &Cards, j: usize, names: &[u32; 64], marks: &[u32], reaches: &[u32; 64]) -> bool
+    requires { (j < cards.now.count) × (most_nodes ≤ length marks.now) }
+    ensures { result ≡ at_home names.now marks.now reaches.now (machine_of cards.now.words.now j) (get_or cards.now.words.now (card_start j + 3) 0) }
 {
-    let hub = k[at + 3];
+    let hub = cards.hub(j);
     let slot = (hub % 64) as usize;
-    let near = distance(k[at], names[slot]) <= reaches[slot];
+    let near = distance(cards.machine(j), names[slot]) <= reaches[slot];
     (hub < 64) & (marks[slot] == 1) & near
 }
 
-// Whether each of the m cards is with its owner.
-pub(crate) fn all_home(
-    k: &[u32],
-    m: usize,
-    names: &[u32; 64],
-    marks: &[u32],
-    reaches: &[u32; 64],
-) -> bool
-    requires { (m ≤ most_cards) × (book_size ≤ length k.now) × (most_nodes ≤ length marks.now) }
-    ensures { result ≡ every (λ c. at_home names.now marks.now reaches.now c.machine c.hub) (table m (λ j. card_from k.now (card_start j))) }
+// Whether each card is with its owner.
+pub(crate) fn all_home(cards: &Cards, names: &[u32; 64], marks: &[u32], reaches: &[u32; 64]) -> bool
+    requires { most_nodes ≤ length marks.now }
+    ensures { result ≡ every (λ c. at_home names.now marks.now reaches.now c.machine c.hub) (table cards.now.count (λ j. card_from cards.now.words.now (card_start j))) }
 {
     let mut ok = true;
-    for j in 0..m {
-        ok &= at_home(k, CARDS_AT + CARD_WORDS * j, names, marks, reaches);
+    for j in 0..cards.count {
+        ok &= at_home(cards, j, names, marks, reaches);
     }
     ok
 }

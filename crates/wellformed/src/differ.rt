@@ -45,7 +45,9 @@ fn four_more(ids: &[u32], i: usize) -> bool
     are_new(&ids[..i], a, b, c, d) & four_differ(a, b, c, d)
 }
 
-// Whether no identifier is there twice.
+// Whether no identifier is there twice. (Out of line: with this in it, founding a ring would be too long to be put into its callers, and would
+// clear the record twice.)
+#[inline(never)]
 pub fn all_differ(ids: &[u32]) -> bool
     ensures { result ≡ distinct ids.now }
 {

@@ -14,9 +14,9 @@ loop-j-init c = sym (every_none _ _)
 pub loop-j-preserved : goal.loop-j-preserved
 loop-j-preserved c = let a = c.args in
     let l = c.loop-j in
-    ap₂ (λ x y. x && y) l.invariant c.at_home-ok.ensures ∙ sym (every_more (λ z. at_home a.names.now a.marks.now a.reaches.now z.machine z.hub) (λ j. card_from a.k.now (card_start j)) l.j)
+    ap₂ (λ x y. x && y) l.invariant c.at_home-ok.ensures ∙ sym (every_more (λ z. at_home a.names.now a.marks.now a.reaches.now z.machine z.hub) (λ j. card_from a.cards.now.words.now (card_start j)) l.j)
 
 pub returns : goal.returns
 returns c = let a = c.args in
-    let e : c.loop-j.j ≡ a.m = omega arith in
-    c.loop-j.invariant ∙ ap (λ n. every (λ z. at_home a.names.now a.marks.now a.reaches.now z.machine z.hub) (table n (λ j. card_from a.k.now (card_start j)))) e
+    let e : c.loop-j.j ≡ a.cards.now.count = omega arith in
+    c.loop-j.invariant ∙ ap (λ n. every (λ z. at_home a.names.now a.marks.now a.reaches.now z.machine z.hub) (table n (λ j. card_from a.cards.now.words.now (card_start j)))) e

@@ -6,4 +6,4 @@ use Rattle.card_checks.specs.Homes.{at_home}
 use Rattle.card_checks.proofs.owners.all_home.Given as goal
 
 abbrev pub invariant-loop-j : goal.invariant-loop-j
-invariant-loop-j l = l.ok ≡ every (λ c. at_home l.names l.marks l.reaches c.machine c.hub) (table l.j (λ i. card_from l.k (card_start i)))
+invariant-loop-j l = l.ok ≡ every (λ c. at_home l.names l.marks l.reaches c.machine c.hub) (table l.j (λ i. card_from l.cards.words.now (card_start i)))

@@ -4,4 +4,4 @@ use Rattle.card_checks.proofs.owners.at_home.Goals as goal
 
 pub returns : goal.returns
 unfolding at_home
-returns c = rw c.distance.ensures
+returns c = rw (c.distance.ensures, c.machine.ensures, c.hub-hub.ensures)
