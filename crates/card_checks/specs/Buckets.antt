@@ -13,11 +13,16 @@ use Rattle.lists.specs.Choice.{choose}
 use Rattle.lists.specs.Members.{mem_at, place, filled}
 use Rattle.lists.specs.Tests.{says_every, says_not, says_eq, T_true, →eqb}
 use Rattle.lists.specs.Blocks.{length_table, get_or_table}
+use Rattle.protocol.specs.Cards.{card_start}
 use Rattle.lists.specs.Merge.{merged, merged_test, merged_next, failure_test, unlike}
 
 T_false : (b : Bool) → T (not b) → b ≡ false
 T_false true t = absurd t
 T_false false t = refl
+
+-- the machine of card j
+abbrev pub machine_of : List ℕ → ℕ → ℕ
+machine_of k j = get_or k (card_start j) 0
 
 -- the bucket of a machine, one of 1024
 abbrev pub buckets : ℕ
@@ -175,8 +180,3 @@ filed_more f heads earlier i b F e size room = record {
   ];
   earlier_are = filled earlier i (get_or heads b 0) 0 (λ j. last f (bucket_of (f j)) j) room (filed_start f heads earlier i b F e) F.earlier_are;
 }
-
--- A test's answer as a number: 0 for yes, 1 for no, and any other where it was given up.
-pub record Verdict (r : ℕ) (b : Bool) : Type 0 where
-  pub yes : r ≡ 0 → b ≡ true
-  pub no : r ≡ 1 → b ≡ false

@@ -58,8 +58,8 @@ module _ (ids k : List ℕ) where
 
   -- the last part decides where the others pass
   pub book_homes : cards_in k ≤ most_cards → marks_ok (length ids) (marks_in k) ≡ true → every (λ x. nat_eq x 0) (unused_cards k) ≡ true
-      → distinct (map (λ c. c.machine) (read_book k).cards) ≡ true → (r : ℕ)
-      → nat_eq r 0 ≡ every (λ c. nat_eq c.hub (home ids (marked (marks_in k)) c.machine)) (table (cards_in k) (λ j. card_from k (card_start j))) → nat_eq r 0 ≡ book_ok ids k
+      → distinct (map (λ c. c.machine) (read_book k).cards) ≡ true → (r : Bool)
+      → r ≡ every (λ c. nat_eq c.hub (home ids (marked (marks_in k)) c.machine)) (table (cards_in k) (λ j. card_from k (card_start j))) → r ≡ book_ok ids k
   unfolding book_ok cards_ok read_book
   book_homes l m u d r e =
       e ∙ sym (ap (λ z. z && marks_ok (length ids) (marks_in k) && zeros && last) (le-leb (cards_in k) most_cards l)

@@ -1,9 +1,10 @@
 -- Who owns a machine, as the code finds it: by tables of identifiers and of each hub's reach. Assumes nothing.
-use Rattle.std.specs.Prelude.{◌≡◌, refl, ◌⊎◌, List, nat_le, nat_lt, nat_eq, length, replicate}
-use Rattle.std.proofs.Common.{sym, ◌∙◌, ap, subst, inl, inr, mod-eq_of_lt, arith, leb→le, le→leb, eqb→eq}
+use Rattle.std.specs.Prelude.{◌≡◌, refl, ◌⊎◌, List, min, nat_le, nat_lt, nat_eq, length, replicate}
+use Rattle.std.proofs.Common.{sym, ◌∙◌, ap, ap₂, subst, inl, inr, mod-eq_of_lt, arith, leb→le, le→leb, eqb→eq}
 use mathlib.Core.Bool.{Bool, true, false, ◌&&◌}
 use Prim.Native.Nat.{ℕ, zero, suc, ◌+◌, ◌%◌, ◌≤◌, ◌<◌}
 use Rattle.std.proofs.Math.Decide.{dec_lt}
+use Rattle.std.proofs.Math.Dec.{nleb→lt}
 use Rattle.std.proofs.Math.ListN.{get_or, get_or-map}
 use Rattle.std.proofs.lemmas.List.{length-map}
 use Rattle.clockwise.specs.Clockwise.{dist}
@@ -13,7 +14,7 @@ use Rattle.lists.specs.Choice.{choose, passes}
 use Rattle.lists.specs.Members.{distinct_apart}
 use Rattle.lists.specs.Search.{Located, Missed, search_ends}
 use Rattle.lists.specs.Tests.{says_and, says_as, says_same, says_eq, says_lt, says_le, →eqb, and_left, and_right, and_both, T_true, true_T}
-use Rattle.lists.specs.Merge.{merged, merged_test, failure_test}
+use Rattle.lists.specs.Merge.{every_none, every_last}
 use Rattle.protocol.specs.Record.{round, most_nodes, row_start, count_in, outside, row, read}
 use Rattle.protocol.specs.WellFormed.{identifiers}
 use Rattle.protocol.specs.Cards.{card_start, card_from, marked, home}
@@ -21,7 +22,7 @@ use Rattle.layout.specs.Words.{row_of_read, row_beyond, count_of_read}
 use Rattle.layout.specs.Form.{Form}
 use Rattle.layout.specs.Owners.{Names, owner_is}
 use Rattle.cardlayout.specs.Marks.{home_is, Marked, mem_marked, marked_mem}
-use Rattle.cardlayout.specs.Reach.{top, gap, least, least_says, gap_to, reach, reach_owns, owns_reach, owner_of}
+use Rattle.cardlayout.specs.Reach.{top, gap, least, least_more, least_says, gap_to, reach, reach_owns, owns_reach, owner_of}
 use Rattle.cardlayout.specs.Sound.{MarksForm}
 
 -- The identifiers of the record, copied side by side.
@@ -168,16 +169,31 @@ module _ (ids names marks : List ℕ) (N : Names ids) (C : Copied names ids) (M 
           absurd (mathlib.Core.Bool.true≢false (sym (T_true _ (and_both (nat_eq (get_or marks s.0 0) 1) (nat_le (dist round v (get_or names s.0 0)) d) (→eqb _ 1 s.1.at) (le→leb (dist round v (get_or names s.0 0)) d (omega (arith, s.2, ap (dist round v) (C.at s.0))))))
           ∙ f.none s.0 s.1.below))
 
--- Every card is at home: the merged failures of the cards.
+-- two tests that say the same of each value of a table
+every_same : {A : Type 0} (p q : A → Bool) (g : ℕ → A) (n : ℕ) → ((j : ℕ) → p (g j) ≡ q (g j)) → every p (table n g) ≡ every q (table n g)
+unfolding table
+every_same p q g zero e = every_none p g ∙ sym (every_none q g)
+every_same p q g (suc n) e =
+    every_last p (table n g) (g n) ∙ ap₂ (λ a b. a && b) (every_same p q g n e) (e n) ∙ sym (every_last q (table n g) (g n))
+
+-- Every card is at home.
 pub homes_law : (ids names marks : List ℕ) → Names ids → Copied names ids → MarksForm (length ids) marks → length marks ≡ most_nodes
     → (reaches : List ℕ) → ((h : ℕ) → Marked marks h → get_or reaches h 0 ≡ reach names marks h)
-    → (k : List ℕ) → ((i : ℕ) → get_or k i 0 < round) → (m r : ℕ)
-    → r ≡ merged m (λ j. when at_home names marks reaches (get_or k (card_start j) 0) (get_or k (card_start j + 3) 0) then 0 else 1)
-    → nat_eq r 0 ≡ every (λ c. nat_eq c.hub (home ids (marked marks) c.machine)) (table m (λ j. card_from k (card_start j)))
+    → (k : List ℕ) → ((i : ℕ) → get_or k i 0 < round) → (m : ℕ) (r : Bool)
+    → r ≡ every (λ c. at_home names marks reaches c.machine c.hub) (table m (λ j. card_from k (card_start j)))
+    → r ≡ every (λ c. nat_eq c.hub (home ids (marked marks) c.machine)) (table m (λ j. card_from k (card_start j)))
 homes_law ids names marks N C M size reaches t k small m r e =
-    ap (λ z. nat_eq z 0) e
-    ∙ merged_test _ (λ c. nat_eq c.hub (home ids (marked marks) c.machine)) (λ j. card_from k (card_start j)) m
-    (λ j l. failure_test _ ∙ home_test ids names marks N C M size reaches t (get_or k (card_start j) 0) (get_or k (card_start j + 3) 0) (small (card_start j)))
+    e ∙ every_same (λ c. at_home names marks reaches c.machine c.hub) (λ c. nat_eq c.hub (home ids (marked marks) c.machine)) (λ j. card_from k (card_start j)) m
+    (λ j. home_test ids names marks N C M size reaches t (get_or k (card_start j) 0) (get_or k (card_start j + 3) 0) (small (card_start j)))
+
+-- the lesser of two numbers, as a choice
+lesser : (a b : ℕ) → min a b ≡ (when nat_le a b then a else b)
+lesser a b = choose (λ z. min a b ≡ z) (nat_le a b) a b (λ t. let l = leb→le a b t in omega arith) (λ t. let l = nleb→lt a b t in omega arith)
+
+-- the least so far, and one number more
+pub least_next : (f : ℕ → ℕ) (n a b : ℕ) → a ≡ least f n → b ≡ f n → min a b ≡ least f (n + 1)
+least_next f n a b p q =
+    lesser a b ∙ ap (λ z. when nat_le a z then a else z) q ∙ ap (λ z. when nat_le z (f n) then z else f n) p ∙ sym (least_more f n)
 
 pub get_or_zeros : (n i : ℕ) → ◌≡◌ {A = ℕ} (get_or (replicate n 0) i 0) 0
 get_or_zeros zero i = refl

@@ -1,5 +1,5 @@
 -- What the tests of the marks say. Assumes nothing.
-use Rattle.std.specs.Prelude.{◌≡◌, refl, ◌⊎◌, List, [], ◌∷◌, ℕ, suc, ◌+◌, ◌-◌, ◌≤◌, ◌<◌, T, nat_le, nat_lt, nat_eq, length, get_or, set, take, drop}
+use Rattle.std.specs.Prelude.{◌≡◌, refl, ◌⊎◌, List, [], ◌∷◌, fold, ℕ, suc, ◌+◌, ◌-◌, ◌≤◌, ◌<◌, T, nat_le, nat_lt, nat_eq, length, get_or, set, take, drop}
 use Rattle.std.proofs.Common.{sym, ◌∙◌, ap, inl, inr, arith, eqb→eq, T_not, length-drop, length-take, length-set, get_or-drop, get_or-take, get_or-set_same, get_or-set_other, take-add, drop-drop, drop_at, length-take-le}
 use mathlib.Core.Bool.{Bool, true, false, not, ◌&&◌}
 use Rattle.std.proofs.Math.Decide.{dec_lt, ℕ_discrete}
@@ -8,8 +8,9 @@ use Rattle.lists.specs.Basics.{table, when◌then◌else◌, Mem, every}
 use Rattle.lists.specs.Blocks.{table_of}
 use Rattle.lists.specs.Choice.{choose}
 use Rattle.lists.specs.Members.{mem_at, place}
-use Rattle.lists.specs.Merge.{merged, merged_test, failure_test}
+use Rattle.lists.specs.Merge.{merged, merged_test}
 use Rattle.lists.specs.Tests.{says_and, says_as, says_lt, says_le, says_eq, says_not, says_same, says_every, T_true, true_T, →eqb}
+use Rattle.wellformed.specs.Laws.{fold_every}
 use Rattle.protocol.specs.Record.{most_nodes}
 use Rattle.protocol.specs.Cards.{book_size, marks_in, marked, marks_ok}
 use Rattle.cardlayout.specs.Marks.{Marked, mem_marked, marked_mem, some_member, member_some}
@@ -60,10 +61,10 @@ any_law marks r bits e =
         omega (arith, m.at, z (get_or marks s.0 0) (mem_at marks s.0 0 m.below))
 
 -- The tests as the code makes them: each mark 0 or 1, not all 0, and 0 from n on.
-pub marks_law : (n : ℕ) (marks : List ℕ) (a : Bool) (r z : ℕ) → a ≡ every (λ x. nat_lt x 2) marks → nat_eq r 0 ≡ every (λ x. nat_eq x 0) marks
-    → nat_eq z 0 ≡ every (λ x. nat_eq x 0) (drop n marks) → (a && not (nat_eq r 0) && nat_eq z 0) ≡ marks_ok n marks
+pub marks_law : (n : ℕ) (marks : List ℕ) (a r z : Bool) → a ≡ every (λ x. nat_lt x 2) marks → r ≡ every (λ x. nat_eq x 0) marks
+    → z ≡ every (λ x. nat_eq x 0) (drop n marks) → (a && not r && z) ≡ marks_ok n marks
 marks_law n marks a r z ea er ez =
-    ap (λ b. b && not (nat_eq r 0) && nat_eq z 0) ea ∙ ap (λ b. every (λ x. nat_lt x 2) marks && not b && nat_eq z 0) er ∙ ap (λ b. every (λ x. nat_lt x 2) marks && not (every (λ x. nat_eq x 0) marks) && b) ez
+    ap (λ b. b && not r && z) ea ∙ ap (λ b. every (λ x. nat_lt x 2) marks && not b && z) er ∙ ap (λ b. every (λ x. nat_lt x 2) marks && not (every (λ x. nat_eq x 0) marks) && b) ez
     ∙ says_same
     (says_as (says_and (says_and (says_every (λ x. nat_lt x 2) (λ x. x < 2) (λ x. says_lt x 2) marks)
     (says_not (says_every (λ x. nat_eq x 0) (λ x. x ≡ 0) (λ x. says_eq x 0) marks)))
@@ -121,20 +122,13 @@ later_marks k n h l =
     ∙ sym (drop_take n (most_nodes - n) (drop 1 k) (simp length-drop (omega arith)))
     ∙ ap (λ z. drop n (take z (drop 1 k))) q
 
--- merged failures of a list's elements
-pub merged_every : (q : ℕ → Bool) (l : List ℕ) (r : ℕ) → r ≡ merged (length l) (λ i. when q (get_or l i 0) then 0 else 1) → nat_eq r 0 ≡ every q l
-merged_every q l r e =
-    ap (λ z. nat_eq z 0) e
-    ∙ merged_test _ q (λ i. get_or l i 0) (length l) (λ i h. failure_test (q (get_or l i 0)))
-    ∙ ap (every q) (table_of l 0 (λ i. get_or l i 0) (length l) (omega arith) (λ i h. refl) ∙ take-length l)
-
-pub marks_code : (k : List ℕ) (n : ℕ) → n ≤ most_nodes → book_size ≤ length k → (b r z : ℕ)
-    → b ≡ merged (length (marks_in k)) (λ i. when nat_lt (get_or (marks_in k) i 0) 2 then 0 else 1)
-    → nat_eq r 0 ≡ every (λ x. nat_eq x 0) (marks_in k)
-    → nat_eq z 0 ≡ every (λ x. nat_eq x 0) (take (65 - (1 + n)) (drop (1 + n) k))
-    → (nat_eq b 0 && not (nat_eq r 0) && nat_eq z 0) ≡ marks_ok n (marks_in k)
+pub marks_code : (k : List ℕ) (n : ℕ) → n ≤ most_nodes → book_size ≤ length k → (b r z : Bool)
+    → b ≡ fold (λ ok x. ok && nat_lt x 2) true (marks_in k)
+    → r ≡ every (λ x. nat_eq x 0) (marks_in k)
+    → z ≡ every (λ x. nat_eq x 0) (take (65 - (1 + n)) (drop (1 + n) k))
+    → (b && not r && z) ≡ marks_ok n (marks_in k)
 marks_code k n h l b r z eb er ez =
-    marks_law n (marks_in k) (nat_eq b 0) r z (merged_every (λ x. nat_lt x 2) (marks_in k) b eb) er (ez ∙ ap (every (λ x. nat_eq x 0)) (later_marks k n h l))
+    marks_law n (marks_in k) b r z (eb ∙ fold_every (λ x. nat_lt x 2) true (marks_in k)) er (ez ∙ ap (every (λ x. nat_eq x 0)) (later_marks k n h l))
 
 -- the marks of the other hubs, merged
 pub others_law : (marks : List ℕ) (h r : ℕ) → r ≡ merged (length marks) (λ i. when not (nat_eq i h) then get_or marks i 0 else 0)

@@ -1,34 +1,34 @@
 // Is the card slice well formed beside its record? The questions in turn; `names` are the record's identifiers, side by side.
-ghost use Rattle.std.specs.Prelude.{◌≡◌, List, ℕ, ◌≤◌, ◌<◌, nat_eq, length};
+ghost use Rattle.std.specs.Prelude.{◌≡◌, List, ℕ, ◌≤◌, nat_eq, length};
 ghost use Rattle.lists.specs.Basics.{table, every};
 ghost use Rattle.protocol.specs.Record.{most_nodes, record_size, read};
 ghost use Rattle.protocol.specs.WellFormed.{identifiers};
-ghost use Rattle.protocol.specs.Cards.{most_cards, book_size, marks_in, card_from, card_start, marked, home, book_ok};
+ghost use Rattle.protocol.specs.Cards.{book_size, marks_in, card_from, card_start, marked, home, book_ok};
 ghost use Rattle.layout.specs.Form.{Valid};
 ghost use Rattle.layout.specs.Owners.{Names};
 ghost use Rattle.cardlayout.specs.Sound.{MarksForm};
 ghost use Rattle.card_checks.specs.Homes.{Copied};
 
+use crate::cards::Cards;
 use crate::machines::machines_differ;
 use crate::marks::marks_ok;
-use crate::owners::strays;
+use crate::owners::all_home;
 use crate::preds::member_reaches;
 use protocol::form::{BOOK_WORDS, CARD_WORDS, CARDS_AT, MARKS_AT, MOST_CARDS};
-use wellformed::bad_zeros;
+use wellformed::all_zero;
 
-// 0 where each of the m cards is with its owner among the n nodes that are marked.
-fn bad_homes(w: &[u32], k: &[u32], n: u32, m: u32, names: &[u32]) -> u32
-    requires { (n ≤ most_nodes) × (record_size ≤ length w.now) × (m ≤ most_cards) × (book_size ≤ length k.now) × (length names.now ≡ most_nodes) }
-    ensures { (ids : List ℕ) → Names ids → Copied names.now ids → length ids ≡ n → MarksForm n (marks_in k.now) → nat_eq result 0 ≡ every (λ c. nat_eq c.hub (home ids (marked (marks_in k.now)) c.machine)) (table m (λ j. card_from k.now (card_start j))) }
+// Whether each card is with its owner among the n nodes that are marked.
+fn homes_ok(w: &[u32], cards: &Cards, n: u32, names: &[u32; 64]) -> bool
+    requires { (n ≤ most_nodes) × (record_size ≤ length w.now) }
+    ensures { (ids : List ℕ) → Names ids → Copied names.now ids → length ids ≡ n → MarksForm n (marks_in cards.now.words.now) → result ≡ every (λ c. nat_eq c.hub (home ids (marked (marks_in cards.now.words.now)) c.machine)) (table cards.now.count (λ j. card_from cards.now.words.now (card_start j))) }
 {
-    let mut reaches = [0u32; 64];
-    let marks = &k[MARKS_AT..CARDS_AT];
-    member_reaches(w, names, marks, n as usize, &mut reaches);
-    strays(k, m as usize, names, marks, &reaches)
+    let marks = &cards.words[MARKS_AT..CARDS_AT];
+    let reaches = member_reaches(w, names, marks, n as usize);
+    all_home(cards, names, marks, &reaches)
 }
 
-pub fn book_ok(w: &[u32], names: &[u32], k: &[u32]) -> bool
-    requires { (Valid w.now) × (length names.now ≡ most_nodes) × (Copied names.now (identifiers (read w.now))) × (book_size ≤ length k.now) }
+pub fn book_ok(w: &[u32], names: &[u32; 64], k: &[u32]) -> bool
+    requires { (Valid w.now) × (Copied names.now (identifiers (read w.now))) × (book_size ≤ length k.now) }
     ensures { result ≡ book_ok (identifiers (read w.now)) k.now }
 {
     let n = w[1];
@@ -39,12 +39,16 @@ pub fn book_ok(w: &[u32], names: &[u32], k: &[u32]) -> bool
     if !marks_ok(k, n) {
         return false;
     }
-    let end = CARDS_AT + CARD_WORDS * (m as usize);
-    if bad_zeros(&k[end..BOOK_WORDS]) != 0 {
+    let cards = Cards {
+        words: k,
+        count: m as usize,
+    };
+    let end = CARDS_AT + CARD_WORDS * cards.count;
+    if !all_zero(&k[end..BOOK_WORDS]) {
         return false;
     }
-    if !machines_differ(k, m) {
+    if !machines_differ(&cards) {
         return false;
     }
-    bad_homes(w, k, n, m, names) == 0
+    homes_ok(w, &cards, n, names)
 }

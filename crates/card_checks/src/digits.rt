@@ -1,36 +1,23 @@
 // Do the machines of the cards differ? By their digits, from the lowest: cards whose machines have the same digits so far are a group, and each pass
 // parts the groups by four bits more. The first groups are by nine bits, so six passes are the most. Linear in the cards, whatever their machines are.
-// `rest` has what is left of each machine, `groups` the name of each card's group: those nine bits, and after a pass one more than its first card.
-ghost use Rattle.std.specs.Prelude.{◌≡◌, ℕ, ◌+◌, ◌/◌, ◌%◌, ◌≤◌, ◌<◌, nat_eq, length, get_or, set};
+ghost use Rattle.std.specs.Prelude.{◌≡◌, ℕ, ◌+◌, ◌/◌, ◌%◌, ◌≤◌, ◌<◌, nat_eq, get_or, set};
 ghost use Rattle.lists.specs.Basics.{when◌then◌else◌, table, distinct};
-ghost use Rattle.lists.specs.Merge.{merged};
-ghost use Rattle.protocol.specs.Cards.{most_cards, book_size, card_start};
-ghost use Rattle.card_checks.specs.Digits.{slot_count, Parted, Grouped};
+ghost use Rattle.protocol.specs.Cards.{most_cards};
+ghost use Rattle.card_checks.specs.Buckets.{machine_of};
+ghost use Rattle.card_checks.specs.Digits.{slot_count, Parted, Grouped, following};
 
-use lists::failure;
-use protocol::form::{CARD_WORDS, CARDS_AT};
+use crate::cards::Cards;
 
 // A slot for each group and digit.
 const SLOTS: usize = 8208;
 
-// The lowest nine bits of the first m cards' machines, and what is left of them.
-fn cut_machines(k: &[u32], m: usize, rest: &mut [u32], groups: &mut [u32])
-    requires { (m ≤ most_cards) × (book_size ≤ length k.now) × (most_cards ≤ length rest.old) × (most_cards ≤ length groups.old) }
-    ensures { ((j : ℕ) → j < m → get_or groups.new j 0 ≡ get_or k.now (card_start j) 0 % 512) × ((j : ℕ) → j < m → get_or rest.new j 0 ≡ get_or k.now (card_start j) 0 / 512) }
-{
-    let mut j = 0;
-    while j < m {
-        let machine = k[CARDS_AT + CARD_WORDS * j];
-        groups[j] = machine % 512;
-        rest[j] = machine / 512;
-        j += 1;
-    }
-}
+// How many passes part cards with different machines.
+const MOST_PASSES: u32 = 6;
 
 // The first card that came to a slot, or card i where none did; each as one more than its place. Nothing is written to a slot that is taken: where
 // all cards come to the same one, each would have to wait for the word that the card before it wrote.
-fn first_come(slots: &mut [u16], slot: usize, i: usize) -> u16
-    requires { (slot < length slots.old) × (i < most_cards) }
+fn first_come(slots: &mut [u16; SLOTS], slot: usize, i: usize) -> u16
+    requires { (slot < slot_count) × (i < most_cards) }
     ensures { (result ≡ (when nat_eq (get_or slots.old slot 0) 0 then i + 1 else get_or slots.old slot 0)) × (slots.new ≡ set slots.old slot result) }
 {
     let seen = slots[slot];
@@ -42,66 +29,78 @@ fn first_come(slots: &mut [u16], slot: usize, i: usize) -> u16
     seen
 }
 
-// One pass over the first m cards. The slots come empty.
-fn part(rest: &mut [u32], groups: &mut [u32], slots: &mut [u16], m: usize)
-    requires { (m ≤ most_cards) × (m ≤ length rest.old) × (m ≤ length groups.old) × (length slots.old ≡ slot_count) × ((b : ℕ) → b < slot_count → get_or slots.old b 0 ≡ 0) × ((j : ℕ) → j < m → get_or groups.old j 0 ≤ most_cards) }
-    ensures { Parted m rest.old groups.old rest.new groups.new }
-{
-    let mut i = 0;
-    while i < m {
-        let left = rest[i];
-        let slot = (groups[i] * 16 + left % 16) as usize;
-        let first = first_come(slots, slot, i);
-        groups[i] = first as u32;
-        rest[i] = left / 16;
-        i += 1;
-    }
+// The first cards of a slice, in groups: what is left of each card's machine, and the name of its group: the lowest nine bits of its machine, and
+// after a pass one more than the first card of the group.
+#[derive(Clone, Copy)]
+struct Groups {
+    count: usize,
+    rest: [u32; 512],
+    names: [u32; 512],
+    ghost few: { count ≤ most_cards },
 }
 
-fn part_once(rest: &mut [u32], groups: &mut [u32], m: usize)
-    requires { (m ≤ most_cards) × (m ≤ length rest.old) × (m ≤ length groups.old) × ((j : ℕ) → j < m → get_or groups.old j 0 ≤ most_cards) }
-    ensures { Parted m rest.old groups.old rest.new groups.new }
-{
-    let mut slots = [0u16; SLOTS];
-    part(rest, groups, &mut slots, m);
-}
-
-// 0 where each of the first m cards is the first of its group.
-fn followers(groups: &[u32], m: usize) -> u32
-    requires { (m ≤ most_cards) × (m ≤ length groups.now) }
-    ensures { result ≡ merged m (λ i. when nat_eq (get_or groups.now i 0) (i + 1) then 0 else 1) }
-{
-    let mut bad: u32 = 0;
-    let mut i = 0;
-    while i < m {
-        bad |= failure(groups[i] == (i + 1) as u32);
-        i += 1;
-    }
-    bad
-}
-
-// Passes, until each card is the first of its group, but six at most: then the cards of a group have the same machine.
-fn part_all(rest: &mut [u32], groups: &mut [u32], m: usize) -> bool
-    requires { (m ≤ most_cards) × (m ≤ length rest.old) × (m ≤ length groups.old) × ((j : ℕ) → j < m → get_or groups.old j 0 ≤ most_cards) }
-    ensures { (f : ℕ → ℕ) → Grouped f m 6 rest.old groups.old → result ≡ distinct (table m f) }
-{
-    let mut left: u32 = 6;
-    while 0 < left {
-        part_once(rest, groups, m);
-        if followers(groups, m) == 0 {
-            return true;
+impl Groups {
+    fn of(cards: &Cards) -> Groups
+        ensures { (result.count ≡ cards.now.count) × ((j : ℕ) → j < result.count → get_or result.names j 0 ≡ machine_of cards.now.words.now j % 512) × ((j : ℕ) → j < result.count → get_or result.rest j 0 ≡ machine_of cards.now.words.now j / 512) }
+    {
+        let mut rest = [0u32; 512];
+        let mut names = [0u32; 512];
+        for j in 0..cards.count {
+            let machine = cards.machine(j);
+            names[j] = machine % 512;
+            rest[j] = machine / 512;
         }
-        left -= 1;
+        Groups {
+            count: cards.count,
+            rest,
+            names,
+        }
     }
-    false
+
+    // One pass.
+    fn part(&mut self)
+        requires { (j : ℕ) → j < self.old.count → get_or self.old.names j 0 ≤ most_cards }
+        ensures { (self.new.count ≡ self.old.count) × Parted self.old.count self.old.rest self.old.names self.new.rest self.new.names }
+    {
+        let mut slots = [0u16; SLOTS];
+        for i in 0..self.count {
+            let left = self.rest[i];
+            let slot = (self.names[i] * 16 + left % 16) as usize;
+            let first = first_come(&mut slots, slot, i);
+            self.names[i] = u32::from(first);
+            self.rest[i] = left / 16;
+        }
+    }
+
+    // Whether each card is the first of its group.
+    fn all_lead(&self) -> bool
+        ensures { result ≡ nat_eq (following self.now.count self.now.names) 0 }
+    {
+        let mut ok = true;
+        for i in 0..self.count {
+            ok &= self.names[i] == (i + 1) as u32;
+        }
+        ok
+    }
+
+    // Passes, until each card is the first of its group, but six at most: then the cards of a group have the same machine.
+    fn part_all(&mut self) -> bool
+        requires { (j : ℕ) → j < self.old.count → get_or self.old.names j 0 ≤ most_cards }
+        ensures { (f : ℕ → ℕ) → Grouped f self.old.count 6 self.old.rest self.old.names → result ≡ distinct (table self.old.count f) }
+    {
+        for pass in 0..MOST_PASSES {
+            self.part();
+            if self.all_lead() {
+                return true;
+            }
+        }
+        false
+    }
 }
 
-pub(crate) fn by_digits(k: &[u32], m: usize) -> bool
-    requires { (m ≤ most_cards) × (book_size ≤ length k.now) }
-    ensures { result ≡ distinct (table m (λ j. get_or k.now (card_start j) 0)) }
+pub(crate) fn by_digits(cards: &Cards) -> bool
+    ensures { result ≡ distinct (table cards.now.count (machine_of cards.now.words.now)) }
 {
-    let mut rest = [0u32; 512];
-    let mut groups = [0u32; 512];
-    cut_machines(k, m, &mut rest, &mut groups);
-    part_all(&mut rest, &mut groups, m)
+    let mut groups = Groups::of(cards);
+    groups.part_all()
 }

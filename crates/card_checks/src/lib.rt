@@ -2,6 +2,7 @@
 #![tactic(auto)]
 
 mod buckets;
+mod cards;
 mod content;
 mod digits;
 mod machines;

@@ -1,6 +1,6 @@
 // Reaches out of the record: each member's gap back to its pred. Where these preds are members, and the gaps go round the circle just once, none of
 // them is too wide (cardlayout/specs/Circle.antt). So it is in every record that a ring reaches, but where a JOINPOINT waits: then they are searched.
-ghost use Rattle.std.specs.Prelude.{◌≡◌, true, List, ℕ, ◌+◌, ◌≤◌, length, get_or};
+ghost use Rattle.std.specs.Prelude.{◌≡◌, List, IfSome, ℕ, ◌+◌, ◌≤◌, length, get_or};
 ghost use Rattle.lists.specs.Basics.{when◌then◌else◌};
 ghost use Rattle.protocol.specs.Record.{most_nodes, record_size};
 ghost use Rattle.layout.specs.Owners.{Names};
@@ -9,8 +9,8 @@ ghost use Rattle.cardlayout.specs.Reach.{reach as reach_spec};
 ghost use Rattle.cardlayout.specs.Sound.{MarksForm};
 ghost use Rattle.card_checks.specs.Homes.{Copied};
 
-use crate::owners::{fill_reaches, gap};
-use lists::{both, failure, when};
+use crate::owners::{gap, reaches_of};
+use lists::{failure, when};
 use protocol::form::{ROW_WORDS, ROWS_AT};
 
 // The place of pred in a row.
@@ -21,38 +21,40 @@ fn arc(member: bool, far: u32) -> u64
     ensures { (result ≡ (when member then far + 1 else 0)) × (result ≤ 4294967296) }
 {
     if member {
-        return far as u64 + 1;
+        return u64::from(far) + 1;
     }
     0
 }
 
-// The gaps back to the preds of the n nodes, and whether they are the members' reaches.
-fn by_preds(w: &[u32], names: &[u32], marks: &[u32], n: usize, reaches: &mut [u32]) -> bool
-    requires { (n ≤ most_nodes) × (record_size ≤ length w.now) × (most_nodes ≤ length names.now) × (length marks.now ≡ most_nodes) × (most_nodes ≤ length reaches.old) }
-    ensures { result ≡ true → (ids : List ℕ) → Names ids → Copied names.now ids → length ids ≡ n → MarksForm n marks.now → (h : ℕ) → Marked marks.now h → get_or reaches.new h 0 ≡ reach_spec names.now marks.now h }
+// The gaps back to the preds of the n nodes, where they are the members' reaches.
+fn by_preds(w: &[u32], names: &[u32; 64], marks: &[u32], n: usize) -> Option<[u32; 64]>
+    requires { (n ≤ most_nodes) × (record_size ≤ length w.now) × (length marks.now ≡ most_nodes) }
+    ensures { IfSome result (λ reaches. (ids : List ℕ) → Names ids → Copied names.now ids → length ids ≡ n → MarksForm n marks.now → (h : ℕ) → Marked marks.now h → get_or reaches h 0 ≡ reach_spec names.now marks.now h) }
 {
+    let mut reaches = [0u32; 64];
     let mut strangers: u32 = 0;
     let mut circle: u64 = 0;
-    let mut h = 0;
-    while h < n {
+    for h in 0..n {
         let pred = (w[ROWS_AT + ROW_WORDS * h + PRED_AT] % 64) as usize;
         let member = marks[h] == 1;
         let far = gap(names[pred], names[h]);
         strangers |= when(member, failure(marks[pred] == 1));
         circle += arc(member, far);
         reaches[h] = far;
-        h += 1;
     }
-    both(strangers == 0, circle == 4294967296)
+    if (strangers == 0) & (circle == 4294967296) {
+        return Some(reaches);
+    }
+    None
 }
 
 // The reach of each member of a ring of n nodes.
-pub(crate) fn member_reaches(w: &[u32], names: &[u32], marks: &[u32], n: usize, reaches: &mut [u32])
-    requires { (n ≤ most_nodes) × (record_size ≤ length w.now) × (length names.now ≡ most_nodes) × (length marks.now ≡ most_nodes) × (most_nodes ≤ length reaches.old) }
-    ensures { (ids : List ℕ) → Names ids → Copied names.now ids → length ids ≡ n → MarksForm n marks.now → (h : ℕ) → Marked marks.now h → get_or reaches.new h 0 ≡ reach_spec names.now marks.now h }
+pub(crate) fn member_reaches(w: &[u32], names: &[u32; 64], marks: &[u32], n: usize) -> [u32; 64]
+    requires { (n ≤ most_nodes) × (record_size ≤ length w.now) × (length marks.now ≡ most_nodes) }
+    ensures { (ids : List ℕ) → Names ids → Copied names.now ids → length ids ≡ n → MarksForm n marks.now → (h : ℕ) → Marked marks.now h → get_or result h 0 ≡ reach_spec names.now marks.now h }
 {
-    if by_preds(w, names, marks, n, reaches) {
-        return;
+    match by_preds(w, names, marks, n) {
+        Some(reaches) => reaches,
+        None => reaches_of(names, marks, n),
     }
-    fill_reaches(names, marks, n, reaches);
 }

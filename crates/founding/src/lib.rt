@@ -13,7 +13,7 @@ pub use founder::founding_node;
 use lists::both;
 use protocol::form::RECORD_WORDS;
 use protocol::{Answer, Refusal};
-use wellformed::repeated;
+use wellformed::all_differ;
 pub use writing::clear;
 
 // A ring founded by the node that the caller names, or else by the one with the smallest identifier, wherever it stands in the list. The first
@@ -27,7 +27,7 @@ pub fn fresh(w: &mut [u32], identifiers: &[u32], founder: Option<u32>) -> Result
     if !both(1 <= identifiers.len(), identifiers.len() <= 64) {
         return Err(Refusal::IdentifierCount);
     }
-    if repeated(identifiers, identifiers.len()) != 0 {
+    if !all_differ(identifiers) {
         return Err(Refusal::IdentifierTwice);
     }
     let node = founding_node(founder, identifiers);

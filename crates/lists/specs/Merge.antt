@@ -47,7 +47,7 @@ every_and p q l =
     (λ k x m. (k.0 x m, k.1 x m))
     (λ k. ((λ x m. (k x m).0), λ x m. (k x m).1)))
 
-every_last : {A : Type 0} (q : A → Bool) (l : List A) (x : A) → every q (l ++ (x ∷ [])) ≡ (every q l && q x)
+pub every_last : {A : Type 0} (q : A → Bool) (l : List A) (x : A) → every q (l ++ (x ∷ [])) ≡ (every q l && q x)
 unfolding every
 every_last q l x = every_append q l (x ∷ []) ∙ ap (λ z. every q l && z) (and_true (q x))
 
@@ -154,7 +154,7 @@ unlike_all a b c d y = ((unlike y a && unlike y b) && unlike y c) && unlike y d
 unfoldable pub all_unlike : (a b c d : ℕ) → Bool
 all_unlike a b c d = ((((unlike a b && unlike a c) && unlike a d) && unlike b c) && unlike b d) && unlike c d
 
-distinct_next : (ids : ℕ → ℕ) (n : ℕ) → distinct (table (n + 1) ids) ≡ (distinct (table n ids) && every (λ y. unlike y (ids n)) (table n ids))
+pub distinct_next : (ids : ℕ → ℕ) (n : ℕ) → distinct (table (n + 1) ids) ≡ (distinct (table n ids) && every (λ y. unlike y (ids n)) (table n ids))
 unfolding table unlike
 distinct_next ids n = rw add-one (distinct_last (table n ids) (ids n))
 
@@ -188,7 +188,7 @@ four_last l a b c d =
     (in_order (distinct l) (every (λ y. unlike y a) l) (every (λ y. unlike y b) l) (every (λ y. unlike y c) l) (every (λ y. unlike y d) l)
     (unlike a b) (unlike a c) (unlike a d) (unlike b c) (unlike b d) (unlike c d))
 
-distinct_four : (ids : ℕ → ℕ) (n : ℕ)
+pub distinct_four : (ids : ℕ → ℕ) (n : ℕ)
     → distinct (table (n + 4) ids)
     ≡ (distinct (table n ids) && (every (unlike_all (ids n) (ids (n + 1)) (ids (n + 2)) (ids (n + 3))) (table n ids) && all_unlike (ids n) (ids (n + 1)) (ids (n + 2)) (ids (n + 3))))
 unfolding table

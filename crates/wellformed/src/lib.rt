@@ -7,5 +7,5 @@ mod differ;
 mod message;
 mod row;
 
-pub use content::{bad_zeros, well_formed};
-pub use differ::repeated;
+pub use content::{all_zero, well_formed};
+pub use differ::all_differ;

@@ -3,27 +3,24 @@
 ghost use Rattle.std.specs.Prelude.{◌≡◌, ◌&&◌, nat_le, nat_lt, nat_eq};
 ghost use Rattle.protocol.specs.WellFormed.{names_node, a_ok, b_ok, hops_ok, message_ok};
 
-use lists::{both, either, failure, when};
+use lists::{failure, when};
 use protocol::{Message, kinds};
 
 // Whether a is a node in a message of this kind: JOIN, JOINPOINT, NEWSUCCACK and LEAVEPOINT.
 fn names_node(kind: u32) -> bool
     ensures { result ≡ names_node kind }
 {
-    either(
-        either(
-            either(kind == kinds::JOIN, kind == kinds::JOINPOINT),
-            kind == kinds::NEWSUCCACK,
-        ),
-        kind == kinds::LEAVEPOINT,
-    )
+    (kind == kinds::JOIN)
+        | (kind == kinds::JOINPOINT)
+        | (kind == kinds::NEWSUCCACK)
+        | (kind == kinds::LEAVEPOINT)
 }
 
 // 'kinds 1 to 14; from and to below n'
 fn bad_ends(n: u32, m: Message) -> u32
     ensures { nat_eq result 0 ≡ (nat_le 1 m.kind && nat_lt m.kind 15 && nat_lt m.from n && nat_lt m.to n) }
 {
-    failure(both(1 <= m.kind, m.kind < 15)) | failure(m.from < n) | failure(m.to < n)
+    failure((1 <= m.kind) & (m.kind < 15)) | failure(m.from < n) | failure(m.to < n)
 }
 
 // 'LOOKUP has any a, b below asked and hops at most 65535; JOIN, .. have a below n; other message fields are 0'

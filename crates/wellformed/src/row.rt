@@ -1,15 +1,15 @@
 ghost use Rattle.std.specs.Prelude.{◌≡◌};
 ghost use Rattle.protocol.specs.WellFormed.{pointers_ok, lock_ok, flag_ok, row_ok};
 
-use lists::{both, pick};
+use lists::pick;
 use protocol::form::NONE;
 use protocol::{Row, states};
 
 fn pointers_ok(n: u32, h: Row) -> bool
     ensures { result ≡ pointers_ok n h }
 {
-    let unlinked = both(h.pred == NONE, h.succ == NONE);
-    let linked = both(both(h.state <= states::LEAVING, h.pred < n), h.succ < n);
+    let unlinked = (h.pred == NONE) & (h.succ == NONE);
+    let linked = (h.state <= states::LEAVING) & (h.pred < n) & (h.succ < n);
     pick(h.state < states::INSIDE, unlinked, linked)
 }
 
@@ -23,10 +23,7 @@ fn lock_ok(h: Row) -> bool
 fn flag_ok(n: u32, h: Row) -> bool
     ensures { result ≡ flag_ok n h }
 {
-    let raised = both(
-        both(both(h.flag == 1, h.state == states::INSIDE), h.lock == 1),
-        h.oldpred < n,
-    );
+    let raised = (h.flag == 1) & (h.state == states::INSIDE) & (h.lock == 1) & (h.oldpred < n);
     pick(h.flag == 0, h.oldpred == NONE, raised)
 }
 
@@ -34,5 +31,5 @@ fn flag_ok(n: u32, h: Row) -> bool
 pub fn row_ok(n: u32, h: Row) -> bool
     ensures { result ≡ row_ok n h }
 {
-    both(both(pointers_ok(n, h), lock_ok(h)), flag_ok(n, h))
+    pointers_ok(n, h) & lock_ok(h) & flag_ok(n, h)
 }

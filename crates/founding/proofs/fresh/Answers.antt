@@ -2,10 +2,10 @@
 use mathlib.Core.Path.{sym, ◌∙◌}
 use native.Mathlib.Omega.{arith}
 use lib.ListN.{length}
-use borrow.Author.Tests.{eq-eqb, ne_eqb, lt-leb, le-leb, lt-ltb, le-ltb}
+use borrow.Author.Tests.{lt-leb, le-leb, lt-ltb, le-ltb}
 use Rattle.lists.specs.Basics.{when◌then◌else◌, require}
 use Rattle.protocol.specs.Calls.{long, written, fresh_by_call}
-use Rattle.founding.specs.Laws.{differ, some_few}
+use Rattle.founding.specs.Laws.{some_few}
 use Rattle.founding.proofs.fresh.Goals as goal
 
 pub returns-then-w-lt-RECORD_WORDS : goal.returns-then-w-lt-RECORD_WORDS
@@ -16,15 +16,15 @@ pub returns-then-not-both : goal.returns-then-not-both
 unfolding fresh_by_call long require when◌then◌else◌
 returns-then-not-both c = simp (le-leb _ _ c.if-w-lt-RECORD_WORDS.false, ← c.both.ensures, c.if-not-both.true)
 
-pub returns-then-repeated-ne0 : goal.returns-then-repeated-ne0
+pub returns-then-not-all_differ : goal.returns-then-not-all_differ
 unfolding fresh_by_call long require when◌then◌else◌
-returns-then-repeated-ne0 c =
+returns-then-not-all_differ c =
     simp (
       le-leb _ _ c.if-w-lt-RECORD_WORDS.false,
       ← c.both.ensures,
       c.if-not-both.false,
-      ← differ c.args.identifiers.now c.repeated.result c.repeated.ensures,
-      ne_eqb _ _ c.if-repeated-ne0.true,
+      ← c.all_differ.ensures,
+      c.if-not-all_differ.true,
     )
 
 pub returns-then-identifiers-node : goal.returns-then-identifiers-node
@@ -34,8 +34,8 @@ returns-then-identifiers-node c =
       le-leb _ _ c.if-w-lt-RECORD_WORDS.false,
       ← c.both.ensures,
       c.if-not-both.false,
-      ← differ c.args.identifiers.now c.repeated.result c.repeated.ensures,
-      eq-eqb _ _ c.if-repeated-ne0.false,
+      ← c.all_differ.ensures,
+      c.if-not-all_differ.false,
       ← c.founding_node-node.ensures,
       le-ltb _ _ c.if-identifiers-node.true,
     )
@@ -52,8 +52,8 @@ returns c =
       le-leb _ _ c.if-w-lt-RECORD_WORDS.false,
       ← c.both.ensures,
       c.if-not-both.false,
-      ← differ c.args.identifiers.now c.repeated.result c.repeated.ensures,
-      eq-eqb _ _ c.if-repeated-ne0.false,
+      ← c.all_differ.ensures,
+      c.if-not-all_differ.false,
       ← c.founding_node-node.ensures,
       lt-ltb _ _ c.if-identifiers-node.false,
       c.write_fresh.ensures,

@@ -6,4 +6,4 @@ use Rattle.card_checks.proofs.buckets.bucket.Goals as goal
 
 pub returns : goal.returns
 unfolding bucket_of
-returns c = let e = ap (λ z. z * 2654435769 / 4194304 % buckets) c.wide.ensures.0 in (e, subst (λ z. z < buckets) (sym e) (bucket_below c.args.machine))
+returns c = let e = ap (λ z. z * 2654435769 / 4194304 % buckets) c.from.ensures in (e, subst (λ z. z < buckets) (sym e) (bucket_below c.args.machine))

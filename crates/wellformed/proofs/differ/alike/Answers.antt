@@ -1,7 +1,0 @@
--- `alike`: whether two of four identifiers are equal. Assumes nothing.
-use Rattle.lists.specs.Merge.{all_unlike, unlike}
-use Rattle.wellformed.proofs.differ.alike.Goals as goal
-
-pub returns : goal.returns
-unfolding all_unlike unlike
-returns c = cc

@@ -1,7 +1,0 @@
--- `among`: whether an identifier is one of four. Assumes nothing.
-use Rattle.lists.specs.Merge.{unlike_all, unlike}
-use Rattle.wellformed.proofs.differ.among.Goals as goal
-
-pub returns : goal.returns
-unfolding unlike_all unlike
-returns c = cc
