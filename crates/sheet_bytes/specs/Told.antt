@@ -1,21 +1,20 @@
 -- The office sheet's two calls for C (document 02, 2026-03): 17 where there is no room for the counts, asked first; then the call's own
 -- number, or 0 and the counts.
-use Rattle.std.specs.Prelude.{◌≡◌, List, [], ◌∷◌, ℕ, ◌/◌, ◌%◌, ◌≤◌, ◌<◌, nat_le, length}
+use Rattle.std.specs.Prelude.{◌≡◌, List, [], ◌∷◌, ℕ, ◌/◌, ◌%◌, ◌≤◌, ◌<◌, nat_le, length, Ok, Err}
 use Rattle.std.proofs.Math.Path.{ap}
 use Rattle.std.proofs.Common.{◌∙◌, le-leb}
 use Rattle.std.proofs.lemmas.Bool.{lt-leb}
 use Rattle.lists.specs.Basics.{require}
 use Rattle.lists.specs.Choice.{on_yes, on_no}
 use Rattle.protocol.specs.Names.{OUTPUT_SHORT}
+use Rattle.protocol.specs.Refusals.{number_of}
 use Rattle.protocol.specs.Bytes.{over}
-use Rattle.sheets.specs.declared.Outcome.{Outcome}
-use Rattle.sheets.specs.declared.Outcome.TheVariants.{Refused, Done}
-use Rattle.sheets.specs.Calls.{SheetRead, SheetWritten, read_bytes_call, write_bytes_call}
+use Rattle.sheets.specs.Calls.{Outcome, SheetRead, SheetWritten, read_bytes_call, write_bytes_call}
 
 -- The number returned: the refusal, 0 for none.
 unfoldable pub code_of : Outcome → ℕ
-code_of (Refused k) = k
-code_of (Done rows bytes) = 0
+code_of (Err k) = number_of k
+code_of (Ok c) = 0
 
 -- A count has eight bytes, lowest first: two words.
 unfoldable pub count_words : ℕ → ℕ → List ℕ
@@ -23,8 +22,8 @@ count_words rows bytes = rows % 4294967296 ∷ rows / 4294967296 ∷ bytes % 429
 
 -- The lent counts: written where the call is accepted, and then only their first 16 bytes.
 unfoldable pub counts_after : List ℕ → Outcome → List ℕ
-counts_after counts (Refused k) = counts
-counts_after counts (Done rows bytes) = over counts (count_words rows bytes)
+counts_after counts (Err k) = counts
+counts_after counts (Ok c) = over counts (count_words c.rows c.bytes)
 
 -- What the reading call leaves.
 pub record ReadTold : Type 0 where

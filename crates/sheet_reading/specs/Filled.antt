@@ -10,15 +10,14 @@ use Rattle.lists.specs.Basics.{require, every}
 use Rattle.lists.specs.Choice.{on_yes, on_no}
 use Rattle.lists.specs.Tests.{and_false, true_T}
 use Rattle.lists.specs.Splice.{splice}
-use Rattle.protocol.specs.Names.{NO_SHEET, IDENTIFIER_TOO_LARGE, ROOM_SHORT}
+use Rattle.protocol.specs.declared.refusal.Refusal.TheVariants.{NoSheet, IdentifierTooLarge, RoomShort}
 use Rattle.sheet_reading.specs.declared.Judged.{Judged}
-use Rattle.sheet_reading.specs.declared.Judged.TheVariants.{None as NoSheet, Sheet}
+use Rattle.sheet_reading.specs.declared.Judged.TheVariants.{None as NotOne, Sheet}
 use Rattle.sheet_reading.specs.declared.RowPut.{RowPut}
-use Rattle.sheets.specs.declared.Outcome.TheVariants.{Done}
 use Rattle.sheet_reading.specs.declared.RowRead.TheVariants.{None as NoRow, Read as RowAt}
 use Rattle.sheets.specs.declared.Place.TheVariants.{Start}
 use Rattle.sheets.specs.Reader.{Said, nothing, lists, fresh, reading, ending, ended_as}
-use Rattle.sheets.specs.Calls.{laid, is_word, SheetRead, unread, read_into}
+use Rattle.sheets.specs.Calls.{done, laid, is_word, SheetRead, unread, read_into}
 use Rattle.sheets.specs.Words.{word, words, words_append, words_same, cap_word, every_one}
 use Rattle.sheets.specs.Laying.{laid_none, laid_more}
 use Rattle.sheets.proofs.Sound.{same_lists}
@@ -28,7 +27,7 @@ use Rattle.sheet_reading.specs.Put.{Readable, RowPutIs}
 
 -- What a text is, before the outputs are looked at.
 unfoldable pub judged : Said → Judged
-judged nothing = NoSheet
+judged nothing = NotOne
 judged (lists n i) = Sheet (length i) (length n) (every is_word i)
 
 -- Judging: the rows up to i are counted.
@@ -74,7 +73,7 @@ module _ (t : List ℕ) (i rows bytes : ℕ) (fits : Bool) (c : Counted t i rows
         below = (omega arith, omega arith);
       }
 
-  pub counted_wrong : RowIs t i NoRow → NoSheet ≡ judged (reading t)
+  pub counted_wrong : RowIs t i NoRow → NotOne ≡ judged (reading t)
   unfolding RowIs judged
   counted_wrong r = sym (ap judged (c.says ∙ r c.names c.numbers c.value))
 
@@ -108,7 +107,7 @@ abbrev pub Roomy : Said → (List ℕ → List ℕ) → ℕ → ℕ → Type 0
 Roomy s form k l = (n : List ℕ) × (i : List ℕ) × (s ≡ lists n i) × (length (form i) ≤ k) × (length n ≤ l)
 
 module _ (form : List ℕ → List ℕ) where
-  pub read_none : (ids names : List ℕ) (s : Said) → NoSheet ≡ judged s → read_into form ids names s ≡ unread ids names NO_SHEET
+  pub read_none : (ids names : List ℕ) (s : Said) → NotOne ≡ judged s → read_into form ids names s ≡ unread ids names NoSheet
   unfolding judged read_into
   read_none ids names nothing e = refl
   read_none ids names (lists n i) e = absurd (let q : ◌≡◌ {A = ℕ} 0 1 = cc in omega arith)
@@ -117,7 +116,7 @@ module _ (form : List ℕ → List ℕ) where
     abbrev pub a : Accepted s r b f
     a = accepted r b f s e
 
-    pub too_large : f ≡ false → read_into form ids names s ≡ unread ids names IDENTIFIER_TOO_LARGE
+    pub too_large : f ≡ false → read_into form ids names s ≡ unread ids names IdentifierTooLarge
     unfolding read_into
     too_large q = ap (read_into form ids names) a.is ∙ on_no (every is_word a.i) _ _ (sym a.fit ∙ q)
 
@@ -125,13 +124,13 @@ module _ (form : List ℕ → List ℕ) where
       fits : every is_word a.i ≡ true
       fits = sym a.fit ∙ all
 
-      rest_of : (k : SheetRead) → require (nat_le (length (form a.i)) (length ids) && nat_le (length a.n) (length names)) (unread ids names ROOM_SHORT)
-          (record { outcome = Done (length a.i) (length a.n); identifiers = laid ids (form a.i); names = laid names a.n }) ≡ k → read_into form ids names s ≡ k
+      rest_of : (k : SheetRead) → require (nat_le (length (form a.i)) (length ids) && nat_le (length a.n) (length names)) (unread ids names RoomShort)
+          (record { outcome = done (length a.i) (length a.n); identifiers = laid ids (form a.i); names = laid names a.n }) ≡ k → read_into form ids names s ≡ k
       unfolding read_into
       rest_of k e = ap (read_into form ids names) a.is ∙ on_yes (every is_word a.i) _ _ fits ∙ e
 
       -- is an output too short? asked of the places that the identifiers have
-      pub room_short : (q : Bool) → (q ≡ true → length ids < length (form a.i)) → (q || nat_lt (length names) b) ≡ true → read_into form ids names s ≡ unread ids names ROOM_SHORT
+      pub room_short : (q : Bool) → (q ≡ true → length ids < length (form a.i)) → (q || nat_lt (length names) b) ≡ true → read_into form ids names s ≡ unread ids names RoomShort
       room_short true g e = rest_of _ (on_no _ _ _ (rw (lt-leb (length (form a.i)) (length ids) (g refl))))
       room_short false g e =
           let x = a.bytes in
@@ -142,15 +141,15 @@ module _ (form : List ℕ → List ℕ) where
         pub roomy : Roomy s form (length ids) (length names)
         roomy = let y = a.bytes in (a.n, a.i, a.is, h, omega arith)
 
-        pub all_read : (u w : List ℕ) → ((n c : List ℕ) → s ≡ lists n c → (u ≡ laid ids (form (words c))) × (w ≡ laid names n)) → read_into form ids names s ≡ record { outcome = Done r b; identifiers = u; names = w }
+        pub all_read : (u w : List ℕ) → ((n c : List ℕ) → s ≡ lists n c → (u ≡ laid ids (form (words c))) × (w ≡ laid names n)) → read_into form ids names s ≡ record { outcome = done r b; identifiers = u; names = w }
         all_read u w f =
             let x = a.rows in
             let y = a.bytes in
             let g = f a.n a.i a.is in
             rest_of _ (
             on_yes _ _ _ (rw (le-leb (length (form a.i)) (length ids) h, le-leb (length a.n) (length names) (omega arith)))
-            ∙ ap₂ (λ p q. record { outcome = Done p q; identifiers = laid ids (form a.i); names = laid names a.n }) (sym x) (sym y)
-            ∙ ap₂ (λ p q. record { outcome = Done r b; identifiers = p; names = q }) (sym (g.0 ∙ ap (λ z. laid ids (form z)) (words_same a.i fits))) (sym g.1))
+            ∙ ap₂ (λ p q. record { outcome = done p q; identifiers = laid ids (form a.i); names = laid names a.n }) (sym x) (sym y)
+            ∙ ap₂ (λ p q. record { outcome = done r b; identifiers = p; names = q }) (sym (g.0 ∙ ap (λ z. laid ids (form z)) (words_same a.i fits))) (sym g.1))
 
 -- All that a sheet says is in the buffers.
 abbrev pub AllFilled : (List ℕ → List ℕ) → List ℕ → List ℕ → List ℕ → List ℕ → List ℕ → Type 0

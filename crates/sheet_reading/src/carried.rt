@@ -10,8 +10,8 @@ use crate::Judged;
 use crate::copying::copy_row;
 use crate::judging::judge;
 use lists::either;
-use protocol::refusals;
-use sheets::{Outcome, put_byte, word_of};
+use protocol::Refusal;
+use sheets::{Counts, put_byte, word_of};
 
 fn low_byte(x: u32) -> u8
     ensures { result ≡ x % 256 }
@@ -45,20 +45,20 @@ fn fill_bytes(text: &[u8], identifiers: &mut [u8], names: &mut [u8])
     }
 }
 
-pub fn read_sheet_bytes(text: &[u8], identifiers: &mut [u8], names: &mut [u8]) -> Outcome
+pub fn read_sheet_bytes(text: &[u8], identifiers: &mut [u8], names: &mut [u8]) -> Result<Counts, Refusal>
     ensures { read_bytes_call text.now identifiers.old names.old ≡ record { outcome = result; identifiers = identifiers.new; names = names.new } }
 {
     let j = judge(text);
     let Judged::Sheet { rows, bytes, fits } = j else {
-        return Outcome::Refused(refusals::NO_SHEET);
+        return Err(Refusal::NoSheet);
     };
     let is_short = either(identifiers.len() / 4 < rows, names.len() < bytes);
     if !fits {
-        return Outcome::Refused(refusals::IDENTIFIER_TOO_LARGE);
+        return Err(Refusal::IdentifierTooLarge);
     }
     if is_short {
-        return Outcome::Refused(refusals::ROOM_SHORT);
+        return Err(Refusal::RoomShort);
     }
     fill_bytes(text, identifiers, names);
-    Outcome::Done { rows, bytes }
+    Ok(Counts { rows, bytes })
 }

@@ -8,8 +8,8 @@ use crate::Judged;
 use crate::copying::copy_row;
 use crate::judging::judge;
 use lists::either;
-use protocol::refusals;
-use sheets::{Outcome, word_of};
+use protocol::Refusal;
+use sheets::{Counts, word_of};
 
 fn fill(text: &[u8], identifiers: &mut [u32], names: &mut [u8])
     requires { Roomy (reading text.now) as_words (length identifiers.old) (length names.old) }
@@ -28,20 +28,20 @@ fn fill(text: &[u8], identifiers: &mut [u32], names: &mut [u8])
 }
 
 // Rows and bytes are counted before anything is written, so that a refusal writes nothing.
-pub fn read_sheet(text: &[u8], identifiers: &mut [u32], names: &mut [u8]) -> Outcome
+pub fn read_sheet(text: &[u8], identifiers: &mut [u32], names: &mut [u8]) -> Result<Counts, Refusal>
     ensures { read_call text.now identifiers.old names.old ≡ record { outcome = result; identifiers = identifiers.new; names = names.new } }
 {
     let j = judge(text);
     let Judged::Sheet { rows, bytes, fits } = j else {
-        return Outcome::Refused(refusals::NO_SHEET);
+        return Err(Refusal::NoSheet);
     };
     let is_short = either(identifiers.len() < rows, names.len() < bytes);
     if !fits {
-        return Outcome::Refused(refusals::IDENTIFIER_TOO_LARGE);
+        return Err(Refusal::IdentifierTooLarge);
     }
     if is_short {
-        return Outcome::Refused(refusals::ROOM_SHORT);
+        return Err(Refusal::RoomShort);
     }
     fill(text, identifiers, names);
-    Outcome::Done { rows, bytes }
+    Ok(Counts { rows, bytes })
 }

@@ -1,5 +1,5 @@
 -- What is written so far: digits from the last on, a name byte by byte, row by row. Assumes nothing.
-use Rattle.std.specs.Prelude.{◌≡◌, refl, Bool, true, false, List, [], ◌∷◌, ◌++◌, Option, ℕ, zero, suc, ◌+◌, ◌-◌, ◌/◌, ◌%◌, ◌≤◌, ◌<◌, nat_eq, map, length, take, set}
+use Rattle.std.specs.Prelude.{◌≡◌, refl, Bool, true, false, List, [], ◌∷◌, ◌++◌, Option, ℕ, zero, suc, ◌+◌, ◌-◌, ◌/◌, ◌%◌, ◌≤◌, ◌<◌, nat_eq, map, length, take, set, Err}
 use Rattle.std.proofs.Math.Path.{ap, ap₂}
 use Rattle.std.proofs.Common.{sym, ◌∙◌, subst, append_assoc, append-nil, add-zero, add-one, arith, le-leb, length-append, length-set, take-append-drop, take-suc, drop-cons, drop_at, get_or-set_same, drop-set-lt, take-take, take_all, drop_of_length-le}
 use Rattle.std.proofs.lemmas.Bool.{lt-leb}
@@ -11,10 +11,10 @@ use Rattle.lists.specs.Basics.{when◌then◌else◌}
 use Rattle.lists.specs.Choice.{on_yes, on_no}
 use Rattle.lists.specs.Tests.{and_left, true_T}
 use Rattle.lists.specs.Splice.{splice}
-use Rattle.sheets.specs.declared.Outcome.TheVariants.{Refused, Done}
+use Rattle.protocol.specs.declared.refusal.Refusal.TheVariants.{NoSheet, RoomShort}
 use Rattle.sheets.specs.Grammar.{quote, comma, cr, lf, doubled}
 use Rattle.sheets.specs.Writer.{name_text, last_digits, digit_count, decimal, row_text, write_sheet, first_name, behind_name, rows_in, zeros, ends_well, names_for}
-use Rattle.sheets.specs.Calls.{laid, sheet_text, write_call}
+use Rattle.sheets.specs.Calls.{done, laid, sheet_text, write_call}
 use Rattle.sheets.specs.Decimal.{length_last}
 use Rattle.sheets.specs.Buffers.{split_name}
 use Rattle.sheets.specs.Laying.{splice_none, splice_twice, laid_none, laid_more}
@@ -206,7 +206,7 @@ written_all all w t rest out e k =
 
 -- What the call gives, question by question.
 module _ (names ids text : List ℕ) where
-  pub write_wrong : names_for names (length ids) ≡ false → write_call names ids text ≡ record { outcome = Refused 19; text = text }
+  pub write_wrong : names_for names (length ids) ≡ false → write_call names ids text ≡ record { outcome = Err NoSheet; text = text }
   unfolding write_call
   write_wrong e = on_no (names_for names (length ids)) _ _ e
 
@@ -215,10 +215,10 @@ module _ (names ids text : List ℕ) where
     unfolding names_for
     write_zeros = eqb→eq _ _ (and_left (nat_eq (zeros names) (length ids)) (ends_well names) (true_T _ e))
 
-    pub write_short : length text < length (sheet_text names ids) → write_call names ids text ≡ record { outcome = Refused 21; text = text }
+    pub write_short : length text < length (sheet_text names ids) → write_call names ids text ≡ record { outcome = Err RoomShort; text = text }
     unfolding write_call
     write_short h = on_yes (names_for names (length ids)) _ _ e ∙ on_no _ _ _ (lt-leb (length (sheet_text names ids)) (length text) h)
 
-    pub write_done : length (sheet_text names ids) ≤ length text → write_call names ids text ≡ record { outcome = Done (length ids) (length (sheet_text names ids)); text = laid text (sheet_text names ids) }
+    pub write_done : length (sheet_text names ids) ≤ length text → write_call names ids text ≡ record { outcome = done (length ids) (length (sheet_text names ids)); text = laid text (sheet_text names ids) }
     unfolding write_call
     write_done h = on_yes (names_for names (length ids)) _ _ e ∙ on_yes _ _ _ (le-leb (length (sheet_text names ids)) (length text) h)

@@ -7,8 +7,8 @@ ghost use Rattle.sheet_writing.specs.Scanning.{less_by};
 use crate::identifiers::Identifier;
 use crate::names::{Name, names_for};
 use crate::rows::{put_row, row_room};
-use protocol::refusals;
-use sheets::Outcome;
+use protocol::Refusal;
+use sheets::Counts;
 
 // The room that all rows leave of so many bytes.
 fn room_left<T: Identifier>(names: &[u8], identifiers: &[T], limit: usize) -> Option<usize>
@@ -40,30 +40,34 @@ fn put_rows<T: Identifier>(names: &[u8], identifiers: &[T], text: &mut [u8]) -> 
 }
 
 // Names and room are looked at before anything is written, so that a refusal writes nothing.
-fn write<T: Identifier>(names: &[u8], identifiers: &[T], text: &mut [u8]) -> Outcome
+fn write<T: Identifier>(names: &[u8], identifiers: &[T], text: &mut [u8]) -> Result<Counts, Refusal>
     ensures { write_call names.now (map T.value identifiers.now) text.old ≡ record { outcome = result; text = text.new } }
 {
     let rows = identifiers.len();
     if !names_for(names, rows) {
-        return Outcome::Refused(refusals::NO_SHEET);
+        return Err(Refusal::NoSheet);
     }
     match room_left(names, identifiers, text.len()) {
-        None => Outcome::Refused(refusals::ROOM_SHORT),
+        None => Err(Refusal::RoomShort),
         Some(_) => {
             let bytes = put_rows(names, identifiers, text);
-            Outcome::Done { rows, bytes }
+            Ok(Counts { rows, bytes })
         }
     }
 }
 
-pub fn write_sheet(names: &[u8], identifiers: &[u32], text: &mut [u8]) -> Outcome
+pub fn write_sheet(names: &[u8], identifiers: &[u32], text: &mut [u8]) -> Result<Counts, Refusal>
     ensures { write_call names.now identifiers.now text.old ≡ record { outcome = result; text = text.new } }
 {
     write(names, identifiers, text)
 }
 
 // For callers in C: identifiers as bytes, four a word, lowest first. Bytes that are left over are not read.
-pub fn write_sheet_bytes(names: &[u8], identifiers: &[u8], text: &mut [u8]) -> Outcome
+pub fn write_sheet_bytes(
+    names: &[u8],
+    identifiers: &[u8],
+    text: &mut [u8],
+) -> Result<Counts, Refusal>
     ensures { write_bytes_call names.now identifiers.now text.old ≡ record { outcome = result; text = text.new } }
 {
     let (words, _) = identifiers.as_chunks::<4>();

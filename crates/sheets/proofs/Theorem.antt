@@ -14,8 +14,7 @@ use Rattle.sheets.proofs.Sound.{sound, silent}
 use Rattle.sheets.specs.Writer.{name_text, decimal, row_text, write_sheet, behind_name, rows_in, names_for}
 use Rattle.sheets.specs.Decimal.{decimal_digits}
 use Rattle.sheets.specs.Buffers.{Named, Writable, names_back, ids_in, rows_named, names_fit, rows_back}
-use Rattle.sheets.specs.declared.Outcome.TheVariants.{Done}
-use Rattle.sheets.specs.Calls.{is_word, laid, as_words, read_into, read_call, sheet_text, write_call}
+use Rattle.sheets.specs.Calls.{done, is_word, laid, as_words, read_into, read_call, sheet_text, write_call}
 
 name_written : (s : List ℕ) → Field (name_text s) s
 unfolding name_text
@@ -83,7 +82,7 @@ can_be_written t n i e =
 
 -- The calls: what was written is read back into any buffers that are long enough ..
 pub written_then_read : (names ids ids' names' : List ℕ) → names_for names (length ids) ≡ true → every is_word ids ≡ true → length ids ≤ length ids' → length names ≤ length names'
-    → read_call (sheet_text names ids) ids' names' ≡ record { outcome = Done (length ids) (length names); identifiers = laid ids' ids; names = laid names' names }
+    → read_call (sheet_text names ids) ids' names' ≡ record { outcome = done (length ids) (length names); identifiers = laid ids' ids; names = laid names' names }
 unfolding read_call read_into
 written_then_read names ids ids' names' f e h k =
     ap (read_into as_words ids' names') (read_back names ids f e)
@@ -92,7 +91,7 @@ written_then_read names ids ids' names' f e h k =
 
 -- .. and what was read can be written into any text that is long enough.
 pub read_then_written : (t n i text : List ℕ) → reading t ≡ lists n i → length (sheet_text n i) ≤ length text
-    → write_call n i text ≡ record { outcome = Done (length i) (length (sheet_text n i)); text = laid text (sheet_text n i) }
+    → write_call n i text ≡ record { outcome = done (length i) (length (sheet_text n i)); text = laid text (sheet_text n i) }
 unfolding write_call
 read_then_written t n i text e h =
     on_yes (names_for n (length i)) _ _ (can_be_written t n i e) ∙ on_yes (nat_le (length (sheet_text n i)) (length text)) _ _ (le-leb (length (sheet_text n i)) (length text) h)

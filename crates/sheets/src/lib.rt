@@ -52,11 +52,11 @@ pub enum Ending {
     BehindNumber,
 }
 
-// What reading or writing a sheet gives: how many rows and bytes were written, or the number of a refusal.
-#[derive(Clone, Copy)]
-pub enum Outcome {
-    Refused(u32),
-    Done { rows: usize, bytes: usize },
+// How many rows and bytes reading or writing a sheet wrote.
+#[derive(Clone, Copy, Debug, PartialEq, Eq)]
+pub struct Counts {
+    pub rows: usize,
+    pub bytes: usize,
 }
 
 // May the byte stand unquoted?

@@ -3,10 +3,10 @@ use mathlib.Core.Path.{sym, ap, ◌∙◌}
 use Rattle.sheet_bytes.specs.Told.{code_of, count_words, counts_after}
 use Rattle.sheet_bytes.proofs.results.finish_sheet.Goals as goal
 
-pub returns-in-Refused : goal.returns-in-Refused
+pub returns-in-Err : goal.returns-in-Err
 unfolding code_of counts_after
-returns-in-Refused c = (ap code_of (sym c.in-Refused.is), ap (counts_after _) (sym c.in-Refused.is))
+returns-in-Err c = (c.from.ensures ∙ ap code_of (sym c.in-Err.is), ap (counts_after _) (sym c.in-Err.is))
 
-pub returns-in-Done : goal.returns-in-Done
+pub returns-in-Ok : goal.returns-in-Ok
 unfolding code_of counts_after count_words
-returns-in-Done c = (ap code_of (sym c.in-Done.is), c.save.ensures ∙ ap (counts_after _) (sym c.in-Done.is))
+returns-in-Ok c = (ap code_of (sym c.in-Ok.is), c.save.ensures ∙ ap (counts_after _) (sym c.in-Ok.is))
