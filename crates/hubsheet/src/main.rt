@@ -6,11 +6,10 @@ mod frame;
 mod hubs;
 mod places;
 
-ghost use Rattle.std.specs.Prelude.{◌≡◌, ◌≤◌, length};
 ghost use Rattle.hubsheet.specs.Held.{Begun, Taken};
 
-use crate::frame::put_line;
-use crate::hubs::{Hubs, feed};
+use crate::frame::{LINE, put_line};
+use crate::hubs::{Hubs, PLACES, feed};
 use console::{Arrival, receive, send};
 use sheets::Place;
 
@@ -21,7 +20,7 @@ fn begun() -> Hubs
     Hubs {
         place: Place::Start,
         rows: 0,
-        value: 0,
+        value: Some(0),
         fits: true,
     }
 }
@@ -34,9 +33,8 @@ struct Turn {
 }
 
 // One read.
-fn take_some(rt: &HostRuntime, h: Hubs, identifiers: &mut [u32], input: &mut [u8]) -> Turn
-    requires { (h.value ≤ 4294967296) × (length identifiers.old ≡ 64) }
-    ensures { (result.hubs.value ≤ 4294967296) × Taken result.arrival h identifiers.old input.new result.hubs identifiers.new }
+fn take_some(rt: &HostRuntime, h: Hubs, identifiers: &mut [u32; PLACES], input: &mut [u8]) -> Turn
+    ensures { Taken result.arrival h identifiers.old input.new result.hubs identifiers.new }
 {
     let arrival = receive(rt, b"hubsheet", input);
     match arrival {
@@ -44,21 +42,21 @@ fn take_some(rt: &HostRuntime, h: Hubs, identifiers: &mut [u32], input: &mut [u8
             let hubs = feed(h, &input[..n], identifiers);
             Turn { arrival, hubs }
         }
-        Arrival::End => Turn { arrival, hubs: h },
-        Arrival::Failed => Turn { arrival, hubs: h },
+        Arrival::End | Arrival::Failed => Turn { arrival, hubs: h },
     }
 }
 
 // Whether the run goes on. At the end of the input the line is printed; where a read failed, which is told, nothing is.
-fn goes_on(rt: &HostRuntime, t: Turn, identifiers: &mut [u32], out: &mut [u8]) -> bool
-    requires { (length identifiers.old ≡ 64) × (516 ≤ length out.old) }
-{
-    let arrival = t.arrival;
-    let h = t.hubs;
-    match arrival {
+fn goes_on(
+    rt: &HostRuntime,
+    t: Turn,
+    identifiers: &mut [u32; PLACES],
+    out: &mut [u8; LINE],
+) -> bool {
+    match t.arrival {
         Arrival::Bytes(_) => true,
         Arrival::End => {
-            let count = put_line(h, identifiers, out);
+            let count = put_line(t.hubs, identifiers, out);
             send(rt, b"hubsheet", &out[..count]);
             false
         }
@@ -66,25 +64,21 @@ fn goes_on(rt: &HostRuntime, t: Turn, identifiers: &mut [u32], out: &mut [u8]) -
     }
 }
 
-// A proved loop has to end, and nothing says that the input does. So the loop counts its turns down, from a number that no run uses up.
-fn run(rt: &HostRuntime, identifiers: &mut [u32], input: &mut [u8], out: &mut [u8])
-    requires { (length identifiers.old ≡ 64) × (516 ≤ length out.old) }
-{
-    let mut turns = 18446744073709551615u64;
+// A proved loop has to end, and nothing says that the input does. So the loop has a number of turns that no run uses up.
+fn run(rt: &HostRuntime, identifiers: &mut [u32; PLACES], input: &mut [u8], out: &mut [u8; LINE]) {
     let mut h = begun();
-    while turns > 0 {
+    for _ in 0..u64::MAX {
         let t = take_some(rt, h, identifiers, input);
         if !goes_on(rt, t, identifiers, out) {
             return;
         }
         h = t.hubs;
-        turns -= 1;
     }
 }
 
 fn main(rt: HostRuntime) {
-    let mut identifiers = [0u32; 64];
+    let mut identifiers = [0u32; PLACES];
     let mut input = io::large_buffer();
-    let mut out = [0u8; 516];
+    let mut out = [0u8; LINE];
     run(&rt, &mut identifiers, &mut input, &mut out);
 }

@@ -3,7 +3,7 @@ use mathlib.Core.Path.{ap, ◌∙◌}
 use mathlib.Core.Bool.{◌&&◌}
 use Prim.Native.Nat.{◌+◌, min}
 use native.Mathlib.Omega.{arith}
-use Rattle.std.specs.Prelude.{nat_le}
+use Rattle.std.specs.Prelude.{is_some}
 use Rattle.protocol.specs.Frames.{refusal_text, print2}
 use Rattle.hubsheet.specs.Line.{refusal_line, rows_line, printed_as, line_within, line_rows, line_number}
 use Rattle.hubsheet.proofs.frame.put_line.Goals as goal
@@ -17,7 +17,7 @@ returns-in-BehindRows c = (c.put_rows.ensures.0, printed_as c.args.h c.args.iden
 
 pub returns-in-BehindNumber : goal.returns-in-BehindNumber
 returns-in-BehindNumber c =
-    let f = c.args.h.fits && nat_le c.args.h.value 4294967295 in
+    let f = c.args.h.fits && is_some c.args.h.value in
     let r = min (c.args.h.rows + 1) 65 in
-    let e = ap (λ z. rows_line z c.counted.result c.keep.new.identifiers) c.both.ensures ∙ ap (λ z. rows_line f z c.keep.new.identifiers) c.counted.ensures ∙ ap (rows_line f r) c.keep.ensures in
+    let e = ap (λ z. rows_line z c.counted.result c.keep.new.identifiers) (ap (λ t. c.args.h.fits && t) c.is_some.ensures) ∙ ap (λ z. rows_line f z c.keep.new.identifiers) c.counted.ensures ∙ ap (rows_line f r) c.keep.ensures in
     (c.put_rows-in-BehindNumber.ensures.0, printed_as c.args.h c.args.identifiers.now c.args.out.now _ _ _ c.put_rows-in-BehindNumber.ensures.1 c.put_rows-in-BehindNumber.ensures.2 (λ m k. e ∙ line_number c.args.h c.args.identifiers.now c.ending.result c.ending.ensures m k c.in-BehindNumber.is))
