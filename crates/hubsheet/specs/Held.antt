@@ -161,6 +161,10 @@ holds_byte m h ids b k = subst (λ p. Holds (record { place = next p b; names = 
 abbrev pub Feeds : Hubs → List ℕ → List ℕ → Hubs → List ℕ → Type 0
 Feeds h ids text h' ids' = (m : Reader) → Holds m h ids → Holds (run m text) h' ids'
 
+-- A byte more.
+abbrev pub Fed : Hubs → List ℕ → ℕ → Hubs → List ℕ → Type 0
+Fed h ids b h' ids' = (h' ≡ after_spec (effect (next h.place b)) h (next h.place b) b) × (ids' ≡ kept_by (effect (next h.place b)) ids h.rows h.value)
+
 -- Before the first byte, what is held is of a reader that has read nothing.
 abbrev pub Begun : Hubs → Type 0
 Begun h = (ids : List ℕ) → length ids ≡ 64 → Holds fresh h ids
@@ -169,13 +173,12 @@ pub feeds_none : (h : Hubs) (ids : List ℕ) → Feeds h ids [] h ids
 unfolding run
 feeds_none h ids m k = k
 
-pub feeds_more : (h h' : Hubs) (ids ids' t : List ℕ) (i : ℕ) → i < length t → Feeds h ids (take i t) h' ids'
-    → Feeds h ids (take (i + 1) t) (after_spec (effect (next h'.place (get_or t i 0))) h' (next h'.place (get_or t i 0)) (get_or t i 0)) (kept_by (effect (next h'.place (get_or t i 0))) ids' h'.rows h'.value)
+pub feeds_more : (h h' h″ : Hubs) (ids ids' ids″ t : List ℕ) (i : ℕ) → i < length t → Feeds h ids (take i t) h' ids' → Fed h' ids' (get_or t i 0) h″ ids″ → Feeds h ids (take (i + 1) t) h″ ids″
 unfolding run
-feeds_more h h' ids ids' t i l f m k =
+feeds_more h h' h″ ids ids' ids″ t i l f s m k =
     let b = get_or t i 0 in
     let e : run m (take (i + 1) t) ≡ fed (run m (take i t)) b = ap (run m) (ap (λ n. take n t) (add-one i) ∙ take-suc t i 0 l) ∙ run_append m (take i t) (b ∷ []) in
-    subst (λ z. Holds z (after_spec (effect (next h'.place b)) h' (next h'.place b) b) (kept_by (effect (next h'.place b)) ids' h'.rows h'.value)) (sym e) (holds_byte (run m (take i t)) h' ids' b (f m k))
+    subst (λ z. Holds z h″ ids″) (sym e) (rw (s.0, s.1) (holds_byte (run m (take i t)) h' ids' b (f m k)))
 
 -- One read: what it brought is taken, and nothing else changes.
 unfoldable pub Taken : Arrival → Hubs → List ℕ → List ℕ → Hubs → List ℕ → Type 0

@@ -3,7 +3,7 @@ ghost use Rattle.std.specs.Prelude.{◌≡◌, ◌≤◌, length};
 ghost use Rattle.sheets.specs.Calls.{laid};
 ghost use Rattle.hubsheet.specs.Line.{refusal_line, founding_line, rows_line, Printed};
 
-use crate::hubs::{Hubs, PLACES, counted, keep};
+use crate::hubs::{Held, PLACES, counted};
 use crate::places::ending;
 use frames::{put2, put8};
 use protocol::refusals;
@@ -50,19 +50,20 @@ fn put_rows(out: &mut [u8; LINE], fits: bool, rows: usize, identifiers: &[u32; P
 }
 
 // The line for what is held at the end of the text, and how many bytes it has. Behind a number there is one row more.
-pub fn put_line(h: Hubs, identifiers: &mut [u32; PLACES], out: &mut [u8; LINE]) -> usize
-    ensures { (result ≤ 516) × Printed h identifiers.old out.old result out.new }
+pub fn put_line(held: &mut Held, out: &mut [u8; LINE]) -> usize
+    ensures { (result ≤ 516) × Printed held.old.hubs held.old.identifiers out.old result out.new }
 {
+    let h = held.hubs;
     match ending(h.place) {
         Ending::Within => put_refusal(out, refusals::NO_SHEET),
-        Ending::BehindRows => put_rows(out, h.fits, h.rows, identifiers),
+        Ending::BehindRows => put_rows(out, h.fits, h.rows, &held.identifiers),
         Ending::BehindNumber => {
-            keep(identifiers, h.rows, h.value);
+            held.keep();
             put_rows(
                 out,
                 h.fits & h.value.is_some(),
                 counted(h.rows),
-                identifiers,
+                &held.identifiers,
             )
         }
     }

@@ -2,7 +2,7 @@
 // length costs no more room than this.
 ghost use Rattle.std.specs.Prelude.{◌≡◌, ◌+◌, min, set};
 ghost use Rattle.std.specs.Option.{unwrap_or};
-ghost use Rattle.hubsheet.specs.Held.{grown as grown_spec, after_spec, kept_by, Feeds};
+ghost use Rattle.hubsheet.specs.Held.{grown as grown_spec, after_spec, kept_by, Begun, Fed, Feeds};
 
 use crate::places::{effect, next};
 use sheets::{Effect, Place};
@@ -60,34 +60,65 @@ fn after(e: Effect, h: Hubs, q: Place, b: u8) -> Hubs
     }
 }
 
-// The number of a row, where there is a place for it; for one that no word has room for, which is refused before it is used, the largest word.
-pub fn keep(identifiers: &mut [u32], row: usize, value: Option<u32>)
-    ensures { identifiers.new ≡ set identifiers.old row (unwrap_or value 4294967295) }
-{
-    if row < identifiers.len() {
-        identifiers[row] = value.unwrap_or(u32::MAX);
-    }
+// All that is held of a sheet: where it stands, and the identifiers of its rows.
+#[derive(Drop)]
+pub struct Held {
+    pub hubs: Hubs,
+    pub identifiers: [u32; PLACES],
 }
 
-#[tactic(auto, unfolding(crate::specs::Held::kept_by))]
-fn keep_by(e: Effect, identifiers: &mut [u32], row: usize, value: Option<u32>)
-    ensures { identifiers.new ≡ kept_by e identifiers.old row value }
-{
-    if let Effect::EndRow = e {
-        keep(identifiers, row, value);
+impl Held {
+    // Before the first byte.
+    pub fn begun() -> Held
+        ensures { Begun result.hubs }
+    {
+        Held {
+            hubs: Hubs {
+                place: Place::Start,
+                rows: 0,
+                value: Some(0),
+                fits: true,
+            },
+            identifiers: [0; PLACES],
+        }
     }
-}
 
-// A piece of the sheet more.
-pub fn feed(begun: Hubs, text: &[u8], identifiers: &mut [u32; PLACES]) -> Hubs
-    ensures { Feeds begun identifiers.old text.now result identifiers.new }
-{
-    let mut h = begun;
-    for b in text {
-        let q = next(h.place, *b);
+    // The number of a row, where there is a place for it; for one that no word has room for, which is refused before it is used, the largest word.
+    pub fn keep(&mut self)
+        ensures hubs { self.new.hubs ≡ self.old.hubs }
+        ensures identifiers { self.new.identifiers ≡ set self.old.identifiers self.old.hubs.rows (unwrap_or self.old.hubs.value 4294967295) }
+    {
+        if self.hubs.rows < PLACES {
+            self.identifiers[self.hubs.rows] = self.hubs.value.unwrap_or(u32::MAX);
+        }
+    }
+
+    #[tactic(auto, unfolding(crate::specs::Held::kept_by))]
+    fn keep_by(&mut self, e: Effect)
+        ensures hubs { self.new.hubs ≡ self.old.hubs }
+        ensures identifiers { self.new.identifiers ≡ kept_by e self.old.identifiers self.old.hubs.rows self.old.hubs.value }
+    {
+        if let Effect::EndRow = e {
+            self.keep();
+        }
+    }
+
+    // A byte more.
+    fn step(&mut self, b: u8)
+        ensures { Fed self.old.hubs self.old.identifiers b self.new.hubs self.new.identifiers }
+    {
+        let q = next(self.hubs.place, b);
         let e = effect(q);
-        keep_by(e, identifiers, h.rows, h.value);
-        h = after(e, h, q, *b);
+        self.keep_by(e);
+        self.hubs = after(e, self.hubs, q, b);
     }
-    h
+
+    // A piece of the sheet more.
+    pub fn feed(&mut self, text: &[u8])
+        ensures { Feeds self.old.hubs self.old.identifiers text.now self.new.hubs self.new.identifiers }
+    {
+        for b in text {
+            self.step(*b);
+        }
+    }
 }

@@ -1,7 +1,0 @@
--- `feed`: what is held is of the bytes so far. Assumes nothing.
-use Rattle.std.proofs.Common.{take}
-use Rattle.hubsheet.specs.Held.{Feeds}
-use Rattle.hubsheet.proofs.hubs.feed.Given as goal
-
-abbrev pub invariant-loop-b : goal.invariant-loop-b
-invariant-loop-b l = Feeds l.initial.h l.initial.identifiers (take l.b-index l.text) l.h l.identifiers
