@@ -1,5 +1,6 @@
 -- The line that `hubsheet` prints for a sheet: the founding frame of its identifiers, or EE and the number of the refusal; LF (10) ends it.
-use Rattle.std.specs.Prelude.{◌≡◌, refl, Bool, true, false, ◌&&◌, List, [], ◌∷◌, ◌++◌, ℕ, ◌+◌, ◌*◌, ◌≤◌, ◌<◌, min, nat_le, length, take, get_or, set}
+use Rattle.std.specs.Prelude.{◌≡◌, refl, Bool, true, false, ◌&&◌, List, [], ◌∷◌, ◌++◌, ℕ, ◌+◌, ◌*◌, ◌≤◌, ◌<◌, is_some, min, nat_le, length, take, get_or, set}
+use Rattle.std.specs.Option.{unwrap_or}
 use Rattle.std.proofs.Math.Path.{ap, sym}
 use Rattle.std.proofs.Common.{◌∙◌, append_assoc, append-nil, add-one, arith, leb-true, leb-false, length-append, take-suc, take_all, length-take-le}
 use Rattle.std.proofs.lemmas.Bool.{lt-leb}
@@ -136,7 +137,7 @@ module _ (h : Hubs) (ids : List ℕ) (e : Ending) (is : e ≡ ending h.place) (m
   unfolding ended_as
   line_rows q = rows_line_lem m.names m.identifiers ids h.rows h.fits k.fits_is k.rows_are k.places k.ids_are ∙ sym (ap hub_line (ended_as_lem ∙ ap (λ x. ended_as x m) q))
 
-  pub line_number : e ≡ BehindNumber → rows_line (h.fits && nat_le h.value 4294967295) (min (h.rows + 1) 65) (set ids h.rows (min h.value 4294967295)) ≡ hub_line (ended m)
+  pub line_number : e ≡ BehindNumber → rows_line (h.fits && is_some h.value) (min (h.rows + 1) 65) (set ids h.rows (unwrap_or h.value 4294967295)) ≡ hub_line (ended m)
   unfolding ended_as
   line_number q =
       let z = holds_row m h ids k in

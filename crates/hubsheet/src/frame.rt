@@ -3,16 +3,17 @@ ghost use Rattle.std.specs.Prelude.{◌≡◌, ◌≤◌, length};
 ghost use Rattle.sheets.specs.Calls.{laid};
 ghost use Rattle.hubsheet.specs.Line.{refusal_line, founding_line, rows_line, Printed};
 
-use crate::hubs::{Hubs, counted, keep};
+use crate::hubs::{Held, PLACES, counted};
 use crate::places::ending;
 use frames::{put2, put8};
-use lists::both;
 use protocol::refusals;
 use sheets::{Ending, put_byte};
 
+// The longest line: a frame of 64 hubs has 515 bytes with its LF.
+pub const LINE: usize = 516;
+
 // EE and the number.
-fn put_refusal(out: &mut [u8], number: u32) -> usize
-    requires { 516 ≤ length out.old }
+fn put_refusal(out: &mut [u8; LINE], number: u32) -> usize
     ensures { (result ≡ length (refusal_line number)) × (out.new ≡ laid out.old (refusal_line number)) }
 {
     put2(out, 0, 238);
@@ -22,51 +23,47 @@ fn put_refusal(out: &mut [u8], number: u32) -> usize
 }
 
 // F0 and 8 digits a hub.
-fn put_founding(out: &mut [u8], identifiers: &[u32]) -> usize
-    requires { (length identifiers.now ≤ 64) × (516 ≤ length out.old) }
+fn put_founding(out: &mut [u8; LINE], identifiers: &[u32]) -> usize
+    requires { length identifiers.now ≤ 64 }
     ensures { (result ≡ length (founding_line identifiers.now)) × (out.new ≡ laid out.old (founding_line identifiers.now)) }
 {
     put2(out, 0, 240);
-    let mut i = 0;
-    while i < identifiers.len() {
-        put8(out, 2 + 8 * i, identifiers[i]);
-        i += 1;
+    for (i, identifier) in identifiers.iter().enumerate() {
+        put8(out, 2 + 8 * i, *identifier);
     }
-    let end = 2 + 8 * i;
+    let end = 2 + 8 * identifiers.len();
     put_byte(out, end, 10);
     end + 1
 }
 
 // The line for a sheet of these rows, whose identifiers fit or not: 20 before 21.
-fn put_rows(out: &mut [u8], fits: bool, rows: usize, identifiers: &[u32]) -> usize
-    requires { (length identifiers.now ≡ 64) × (516 ≤ length out.old) }
+fn put_rows(out: &mut [u8; LINE], fits: bool, rows: usize, identifiers: &[u32; PLACES]) -> usize
     ensures { (result ≤ 516) × (result ≡ length (rows_line fits rows identifiers.now)) × (out.new ≡ laid out.old (rows_line fits rows identifiers.now)) }
 {
     if !fits {
         return put_refusal(out, refusals::IDENTIFIER_TOO_LARGE);
     }
-    if 64 < rows {
+    if PLACES < rows {
         return put_refusal(out, refusals::ROOM_SHORT);
     }
     put_founding(out, &identifiers[..rows])
 }
 
 // The line for what is held at the end of the text, and how many bytes it has. Behind a number there is one row more.
-pub fn put_line(h: Hubs, identifiers: &mut [u32], out: &mut [u8]) -> usize
-    requires { (length identifiers.old ≡ 64) × (516 ≤ length out.old) }
-    ensures { (result ≤ 516) × Printed h identifiers.old out.old result out.new }
+pub fn put_line(held: &mut Held, out: &mut [u8; LINE]) -> usize
+    ensures { (result ≤ 516) × Printed held.old.hubs held.old.identifiers out.old result out.new }
 {
-    let p = h.place;
-    match ending(p) {
+    let h = held.hubs;
+    match ending(h.place) {
         Ending::Within => put_refusal(out, refusals::NO_SHEET),
-        Ending::BehindRows => put_rows(out, h.fits, h.rows, identifiers),
+        Ending::BehindRows => put_rows(out, h.fits, h.rows, &held.identifiers),
         Ending::BehindNumber => {
-            keep(identifiers, h.rows, h.value);
+            held.keep();
             put_rows(
                 out,
-                both(h.fits, h.value <= 4294967295),
+                h.fits & h.value.is_some(),
                 counted(h.rows),
-                identifiers,
+                &held.identifiers,
             )
         }
     }

@@ -1,120 +1,124 @@
 // A sheet that arrives in pieces: what is kept of the bytes that were read. Names are dropped, and identifiers behind the 64th; so a sheet of any
 // length costs no more room than this.
-ghost use Rattle.std.specs.Prelude.{◌≡◌, ◌+◌, ◌-◌, ◌*◌, ◌≤◌, min, length, set};
-ghost use Rattle.hubsheet.specs.Held.{after_spec, kept_by, Feeds};
+ghost use Rattle.std.specs.Prelude.{◌≡◌, ◌+◌, min, set};
+ghost use Rattle.std.specs.Option.{unwrap_or};
+ghost use Rattle.hubsheet.specs.Held.{grown as grown_spec, after_spec, kept_by, Begun, Fed, Feeds};
 
 use crate::places::{effect, next};
-use lists::both;
-use sheets::{Effect, Place, digit_value, word_of};
+use sheets::{Effect, Place};
 
-// Where the reader stands, the rows so far (65 for more than 64), the number that is being read (2^32 for one that is too large), and whether
-// all numbers so far fit a word.
+// A ring has 64 hubs at most.
+pub const PLACES: usize = 64;
+
+// Where the reader stands, the rows so far (65 for more than 64), the number that is being read, if it fits a word, and whether all numbers so far
+// fit one.
 #[derive(Clone, Copy)]
 pub struct Hubs {
     pub place: Place,
     pub rows: usize,
-    pub value: usize,
+    pub value: Option<u32>,
     pub fits: bool,
 }
 
 // A figure more.
-fn grown(value: usize, b: u8) -> usize
-    requires { value ≤ 4294967296 }
-    ensures { result ≡ min (10 * value + (b - 48)) 4294967296 }
+fn grown(value: Option<u32>, b: u8) -> Option<u32>
+    ensures { result ≡ grown_spec value b }
 {
-    let v = 10 * value + digit_value(b);
-    if v < 4294967296 {
-        return v;
-    }
-    4294967296
+    value?
+        .checked_mul(10)?
+        .checked_add(u32::from(b.saturating_sub(b'0')))
 }
 
 // A row more.
 pub fn counted(rows: usize) -> usize
     ensures { result ≡ min (rows + 1) 65 }
 {
-    if rows < 64 {
-        return rows + 1;
-    }
-    65
+    rows.min(PLACES) + 1
 }
 
 // What is kept behind a byte, by its effect.
+#[tactic(auto, unfolding(crate::specs::Held::after_spec))]
 fn after(e: Effect, h: Hubs, q: Place, b: u8) -> Hubs
-    requires { h.value ≤ 4294967296 }
     ensures { result ≡ after_spec e h q b }
 {
+    let moved = Hubs { place: q, ..h };
     match e {
-        Effect::Quiet => Hubs {
-            place: q,
-            rows: h.rows,
-            value: h.value,
-            fits: h.fits,
-        },
-        Effect::Letter => Hubs {
-            place: q,
-            rows: h.rows,
-            value: h.value,
-            fits: h.fits,
-        },
+        Effect::Quiet | Effect::Letter => moved,
         Effect::EndName => Hubs {
-            place: q,
-            rows: h.rows,
-            value: 0,
-            fits: h.fits,
+            value: Some(0),
+            ..moved
         },
         Effect::Figure => Hubs {
-            place: q,
-            rows: h.rows,
             value: grown(h.value, b),
-            fits: h.fits,
+            ..moved
         },
         Effect::EndRow => Hubs {
-            place: q,
             rows: counted(h.rows),
-            value: h.value,
-            fits: both(h.fits, h.value <= 4294967295),
+            fits: h.fits & h.value.is_some(),
+            ..moved
         },
     }
 }
 
-// The number of a row, where there is a place for it.
-pub fn keep(identifiers: &mut [u32], row: usize, value: usize)
-    ensures { identifiers.new ≡ set identifiers.old row (min value 4294967295) }
-{
-    if identifiers.len() <= row {
-        return;
-    }
-    identifiers[row] = word_of(value);
+// All that is held of a sheet: where it stands, and the identifiers of its rows.
+#[derive(Drop)]
+pub struct Held {
+    pub hubs: Hubs,
+    pub identifiers: [u32; PLACES],
 }
 
-fn keep_by(e: Effect, identifiers: &mut [u32], row: usize, value: usize)
-    ensures { identifiers.new ≡ kept_by e identifiers.old row value }
-{
-    match e {
-        Effect::Quiet => {}
-        Effect::Letter => {}
-        Effect::EndName => {}
-        Effect::Figure => {}
-        Effect::EndRow => keep(identifiers, row, value),
+impl Held {
+    // Before the first byte.
+    pub fn begun() -> Held
+        ensures { Begun result.hubs }
+    {
+        Held {
+            hubs: Hubs {
+                place: Place::Start,
+                rows: 0,
+                value: Some(0),
+                fits: true,
+            },
+            identifiers: [0; PLACES],
+        }
     }
-}
 
-// A piece of the sheet more.
-pub fn feed(begun: Hubs, text: &[u8], identifiers: &mut [u32]) -> Hubs
-    requires { (begun.value ≤ 4294967296) × (length identifiers.old ≡ 64) }
-    ensures { (result.value ≤ 4294967296) × Feeds begun identifiers.old text.now result identifiers.new }
-{
-    let mut h = begun;
-    let mut i = 0;
-    while i < text.len() {
-        let b = text[i];
-        let p = h.place;
-        let q = next(p, b);
+    // The number of a row, where there is a place for it; for one that no word has room for, which is refused before it is used, the largest word.
+    pub fn keep(&mut self)
+        ensures hubs { self.new.hubs ≡ self.old.hubs }
+        ensures identifiers { self.new.identifiers ≡ set self.old.identifiers self.old.hubs.rows (unwrap_or self.old.hubs.value 4294967295) }
+    {
+        if self.hubs.rows < PLACES {
+            self.identifiers[self.hubs.rows] = self.hubs.value.unwrap_or(u32::MAX);
+        }
+    }
+
+    #[tactic(auto, unfolding(crate::specs::Held::kept_by))]
+    fn keep_by(&mut self, e: Effect)
+        ensures hubs { self.new.hubs ≡ self.old.hubs }
+        ensures identifiers { self.new.identifiers ≡ kept_by e self.old.identifiers self.old.hubs.rows self.old.hubs.value }
+    {
+        if let Effect::EndRow = e {
+            self.keep();
+        }
+    }
+
+    // A byte more.
+    fn step(&mut self, b: u8)
+        ensures { Fed self.old.hubs self.old.identifiers b self.new.hubs self.new.identifiers }
+    {
+        let q = next(self.hubs.place, b);
         let e = effect(q);
-        keep_by(e, identifiers, h.rows, h.value);
-        h = after(e, h, q, b);
-        i += 1;
+        self.keep_by(e);
+        self.hubs = after(e, self.hubs, q, b);
     }
-    h
+
+    // A piece of the sheet more.
+    pub fn feed(&mut self, text: &[u8])
+        ensures { Feeds self.old.hubs self.old.identifiers text.now self.new.hubs self.new.identifiers }
+    {
+        for b in text {
+            self.step(*b);
+        }
+    }
 }

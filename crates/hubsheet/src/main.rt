@@ -6,59 +6,30 @@ mod frame;
 mod hubs;
 mod places;
 
-ghost use Rattle.std.specs.Prelude.{◌≡◌, ◌≤◌, length};
-ghost use Rattle.hubsheet.specs.Held.{Begun, Taken};
+ghost use Rattle.hubsheet.specs.Held.{Taken};
 
-use crate::frame::put_line;
-use crate::hubs::{Hubs, feed};
+use crate::frame::{LINE, put_line};
+use crate::hubs::Held;
 use console::{Arrival, receive, send};
-use sheets::Place;
-
-// Before the first byte.
-fn begun() -> Hubs
-    ensures { Begun result }
-{
-    Hubs {
-        place: Place::Start,
-        rows: 0,
-        value: 0,
-        fits: true,
-    }
-}
-
-// What a read brought, and what is held of all that was read.
-#[derive(Clone, Copy)]
-struct Turn {
-    arrival: Arrival,
-    hubs: Hubs,
-}
 
 // One read.
-fn take_some(rt: &HostRuntime, h: Hubs, identifiers: &mut [u32], input: &mut [u8]) -> Turn
-    requires { (h.value ≤ 4294967296) × (length identifiers.old ≡ 64) }
-    ensures { (result.hubs.value ≤ 4294967296) × Taken result.arrival h identifiers.old input.new result.hubs identifiers.new }
+fn take_some(rt: &HostRuntime, held: &mut Held, input: &mut [u8]) -> Arrival
+    ensures { Taken result held.old.hubs held.old.identifiers input.new held.new.hubs held.new.identifiers }
 {
     let arrival = receive(rt, b"hubsheet", input);
     match arrival {
-        Arrival::Bytes(n) => {
-            let hubs = feed(h, &input[..n], identifiers);
-            Turn { arrival, hubs }
-        }
-        Arrival::End => Turn { arrival, hubs: h },
-        Arrival::Failed => Turn { arrival, hubs: h },
+        Arrival::Bytes(n) => held.feed(&input[..n]),
+        Arrival::End | Arrival::Failed => {}
     }
+    arrival
 }
 
 // Whether the run goes on. At the end of the input the line is printed; where a read failed, which is told, nothing is.
-fn goes_on(rt: &HostRuntime, t: Turn, identifiers: &mut [u32], out: &mut [u8]) -> bool
-    requires { (length identifiers.old ≡ 64) × (516 ≤ length out.old) }
-{
-    let arrival = t.arrival;
-    let h = t.hubs;
+fn goes_on(rt: &HostRuntime, arrival: Arrival, held: &mut Held, out: &mut [u8; LINE]) -> bool {
     match arrival {
         Arrival::Bytes(_) => true,
         Arrival::End => {
-            let count = put_line(h, identifiers, out);
+            let count = put_line(held, out);
             send(rt, b"hubsheet", &out[..count]);
             false
         }
@@ -66,25 +37,19 @@ fn goes_on(rt: &HostRuntime, t: Turn, identifiers: &mut [u32], out: &mut [u8]) -
     }
 }
 
-// A proved loop has to end, and nothing says that the input does. So the loop counts its turns down, from a number that no run uses up.
-fn run(rt: &HostRuntime, identifiers: &mut [u32], input: &mut [u8], out: &mut [u8])
-    requires { (length identifiers.old ≡ 64) × (516 ≤ length out.old) }
-{
-    let mut turns = 18446744073709551615u64;
-    let mut h = begun();
-    while turns > 0 {
-        let t = take_some(rt, h, identifiers, input);
-        if !goes_on(rt, t, identifiers, out) {
+// A proved loop has to end, and nothing says that the input does. So the loop has a number of turns that no run uses up.
+fn run(rt: &HostRuntime, input: &mut [u8], out: &mut [u8; LINE]) {
+    let mut held = Held::begun();
+    for _ in 0..u64::MAX {
+        let arrival = take_some(rt, &mut held, input);
+        if !goes_on(rt, arrival, &mut held, out) {
             return;
         }
-        h = t.hubs;
-        turns -= 1;
     }
 }
 
 fn main(rt: HostRuntime) {
-    let mut identifiers = [0u32; 64];
     let mut input = io::large_buffer();
-    let mut out = [0u8; 516];
-    run(&rt, &mut identifiers, &mut input, &mut out);
+    let mut out = [0u8; LINE];
+    run(&rt, &mut input, &mut out);
 }

@@ -8,119 +8,104 @@ use sheets::{COMMA, CR, Effect, Ending, LF, Place, QUOTE, bare, is_digit};
 fn unquoted(b: u8) -> Place
     ensures { result ≡ unquoted_spec b }
 {
-    if b == COMMA {
-        return Place::Number;
+    match b {
+        COMMA => Place::Number,
+        0 => Place::Wrong,
+        _ if bare(b) => Place::Plain,
+        _ => Place::Wrong,
     }
-    if b == 0 {
-        return Place::Wrong;
-    }
-    if bare(b) {
-        return Place::Plain;
-    }
-    Place::Wrong
 }
 
 fn quoted(b: u8) -> Place
     ensures { result ≡ quoted_spec b }
 {
-    if b == QUOTE {
-        return Place::Closed;
+    match b {
+        QUOTE => Place::Closed,
+        0 => Place::Wrong,
+        _ => Place::Quoted,
     }
-    if b == 0 {
-        return Place::Wrong;
-    }
-    Place::Quoted
 }
 
 fn closed(b: u8) -> Place
     ensures { result ≡ closed_spec b }
 {
-    if b == QUOTE {
-        return Place::Quoted;
+    match b {
+        QUOTE => Place::Quoted,
+        COMMA => Place::Number,
+        _ => Place::Wrong,
     }
-    if b == COMMA {
-        return Place::Number;
-    }
-    Place::Wrong
 }
 
 fn row_end(b: u8) -> Place
     ensures { result ≡ row_end_spec b }
 {
-    if b == CR {
-        return Place::Return;
-    }
-    Place::Wrong
+    if b == CR { Place::Return } else { Place::Wrong }
 }
 
 fn number(b: u8) -> Place
     ensures { result ≡ number_spec b }
 {
-    if b == QUOTE {
-        return Place::NumberOpened;
+    match b {
+        QUOTE => Place::NumberOpened,
+        _ if is_digit(b) => Place::Digits,
+        _ => Place::Wrong,
     }
-    if is_digit(b) {
-        return Place::Digits;
-    }
-    Place::Wrong
 }
 
 fn digits(b: u8) -> Place
     ensures { result ≡ digits_spec b }
 {
     if is_digit(b) {
-        return Place::Digits;
+        Place::Digits
+    } else {
+        row_end(b)
     }
-    row_end(b)
 }
 
 fn number_quoted(b: u8) -> Place
     ensures { result ≡ number_quoted_spec b }
 {
-    if b == QUOTE {
-        return Place::NumberClosed;
+    match b {
+        QUOTE => Place::NumberClosed,
+        _ if is_digit(b) => Place::NumberQuoted,
+        _ => Place::Wrong,
     }
-    if is_digit(b) {
-        return Place::NumberQuoted;
-    }
-    Place::Wrong
 }
 
 fn start(b: u8) -> Place
     ensures { result ≡ next_spec Start b }
 {
     if b == QUOTE {
-        return Place::Opened;
+        Place::Opened
+    } else {
+        unquoted(b)
     }
-    unquoted(b)
 }
 
 fn number_opened(b: u8) -> Place
     ensures { result ≡ next_spec NumberOpened b }
 {
     if is_digit(b) {
-        return Place::NumberQuoted;
+        Place::NumberQuoted
+    } else {
+        Place::Wrong
     }
-    Place::Wrong
 }
 
 fn returned(b: u8) -> Place
     ensures { result ≡ next_spec Return b }
 {
-    if b == LF {
-        return Place::Start;
-    }
-    Place::Wrong
+    if b == LF { Place::Start } else { Place::Wrong }
 }
 
+#[tactic(auto, unfolding(sheets::specs::Reader::next))]
 pub(crate) fn next(p: Place, b: u8) -> Place
     ensures { result ≡ next_spec p b }
 {
     match p {
         Place::Start => start(b),
         Place::Plain => unquoted(b),
-        Place::Opened => quoted(b),
-        Place::Quoted => quoted(b),
+        Place::Opened | Place::Quoted => quoted(b),
         Place::Closed => closed(b),
         Place::Number => number(b),
         Place::Digits => digits(b),
@@ -132,40 +117,39 @@ pub(crate) fn next(p: Place, b: u8) -> Place
     }
 }
 
+#[tactic(auto, unfolding(sheets::specs::Reader::effect))]
 pub(crate) fn effect(q: Place) -> Effect
     ensures { result ≡ effect_spec q }
 {
     match q {
-        Place::Start => Effect::Quiet,
-        Place::Plain => Effect::Letter,
-        Place::Opened => Effect::Quiet,
-        Place::Quoted => Effect::Letter,
-        Place::Closed => Effect::Quiet,
+        Place::Plain | Place::Quoted => Effect::Letter,
         Place::Number => Effect::EndName,
-        Place::Digits => Effect::Figure,
-        Place::NumberOpened => Effect::Quiet,
-        Place::NumberQuoted => Effect::Figure,
-        Place::NumberClosed => Effect::Quiet,
+        Place::Digits | Place::NumberQuoted => Effect::Figure,
         Place::Return => Effect::EndRow,
-        Place::Wrong => Effect::Quiet,
+        Place::Start
+        | Place::Opened
+        | Place::Closed
+        | Place::NumberOpened
+        | Place::NumberClosed
+        | Place::Wrong => Effect::Quiet,
     }
 }
 
+#[tactic(auto, unfolding(sheets::specs::Reader::ending))]
 pub(crate) fn ending(p: Place) -> Ending
     ensures { result ≡ ending_spec p }
 {
     match p {
         Place::Start => Ending::BehindRows,
-        Place::Plain => Ending::Within,
-        Place::Opened => Ending::Within,
-        Place::Quoted => Ending::Within,
-        Place::Closed => Ending::Within,
-        Place::Number => Ending::Within,
-        Place::Digits => Ending::BehindNumber,
-        Place::NumberOpened => Ending::Within,
-        Place::NumberQuoted => Ending::Within,
-        Place::NumberClosed => Ending::BehindNumber,
-        Place::Return => Ending::Within,
-        Place::Wrong => Ending::Within,
+        Place::Digits | Place::NumberClosed => Ending::BehindNumber,
+        Place::Plain
+        | Place::Opened
+        | Place::Quoted
+        | Place::Closed
+        | Place::Number
+        | Place::NumberOpened
+        | Place::NumberQuoted
+        | Place::Return
+        | Place::Wrong => Ending::Within,
     }
 }

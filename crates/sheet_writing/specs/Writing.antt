@@ -1,26 +1,24 @@
 -- What is written so far: digits from the last on, a name byte by byte, row by row. Assumes nothing.
-use Rattle.std.specs.Prelude.{◌≡◌, refl, Bool, true, false, List, [], ◌∷◌, ◌++◌, ℕ, zero, suc, ◌+◌, ◌-◌, ◌/◌, ◌%◌, ◌≤◌, ◌<◌, nat_eq, length, take, set, Err}
+use Rattle.std.specs.Prelude.{◌≡◌, refl, Bool, true, false, List, [], ◌∷◌, ◌++◌, Option, ℕ, zero, suc, ◌+◌, ◌-◌, ◌/◌, ◌%◌, ◌≤◌, ◌<◌, nat_eq, map, length, take, set, Err}
 use Rattle.std.proofs.Math.Path.{ap, ap₂}
-use Rattle.std.proofs.Common.{sym, ◌∙◌, subst, append_assoc, append-nil, add-zero, add-one, arith, le-leb, length-append, length-drop, length-set, take-append-drop, take-suc, drop-cons, drop-drop, drop_at, get_or-set_same, drop-set-lt, take-take}
+use Rattle.std.proofs.Common.{sym, ◌∙◌, subst, append_assoc, append-nil, add-zero, add-one, arith, le-leb, length-append, length-set, take-append-drop, take-suc, drop-cons, drop_at, get_or-set_same, drop-set-lt, take-take, take_all, drop_of_length-le}
 use Rattle.std.proofs.lemmas.Bool.{lt-leb}
 use Rattle.std.proofs.Math.Dec.{eqb→eq}
 use Rattle.std.proofs.Math.ListN.{drop, get_or}
-use Rattle.std.proofs.Math.Seq.{drop-length, append_snoc}
+use Rattle.std.proofs.Math.Seq.{append_snoc, take-length}
 use Rattle.std.proofs.lemmas.List.{take-set-le}
-use Rattle.lists.specs.Basics.{when◌then◌else◌, every}
+use Rattle.lists.specs.Basics.{when◌then◌else◌}
 use Rattle.lists.specs.Choice.{on_yes, on_no}
 use Rattle.lists.specs.Tests.{and_left, true_T}
 use Rattle.lists.specs.Splice.{splice}
-use Rattle.sheet_writing.specs.declared.Room.{Room}
-use Rattle.sheet_writing.specs.declared.Scan.{Scan}
 use Rattle.protocol.specs.declared.refusal.Refusal.TheVariants.{NoSheet, RoomShort}
-use Rattle.sheets.specs.Grammar.{quote, comma, cr, lf, bare, doubled}
+use Rattle.sheets.specs.Grammar.{quote, comma, cr, lf, doubled}
 use Rattle.sheets.specs.Writer.{name_text, last_digits, digit_count, decimal, row_text, write_sheet, first_name, behind_name, rows_in, zeros, ends_well, names_for}
 use Rattle.sheets.specs.Calls.{done, laid, sheet_text, write_call}
 use Rattle.sheets.specs.Decimal.{length_last}
 use Rattle.sheets.specs.Buffers.{split_name}
 use Rattle.sheets.specs.Laying.{splice_none, splice_twice, laid_none, laid_more}
-use Rattle.sheet_writing.specs.Scanning.{quote_if, name_parts, scanned, row_size, row_size_lem, less_by, less_less, doubled_append}
+use Rattle.sheet_writing.specs.Scanning.{less_by, less_less, doubled_append}
 
 -- Digits: those that are left to write, before what is written, are all of them.
 pub record Digits (w t : List ℕ) (at count v left rest : ℕ) : Type 0 where
@@ -93,10 +91,11 @@ pub double_more : (l : List ℕ) (i : ℕ) → i < length l → doubled (take (i
 double_more l i h = ap doubled (ap (λ k. take k l) (add-one i) ∙ take-suc l i 0 h) ∙ doubled_append (take i l) (get_or l i 0 ∷ [])
 
 -- there is room for one byte more
-pub double_fits : (l : List ℕ) (i n : ℕ) → i < n → n ≤ length l → length (doubled (take i l)) + length (doubled (get_or l i 0 ∷ [])) ≤ length (doubled (take n l))
-double_fits l i n h k =
-    let e = ap length (double_more l i (omega arith)) ∙ length-append (doubled (take i l)) (doubled (get_or l i 0 ∷ [])) in
-    let r = double_room l (i + 1) n (omega arith) in
+pub double_fits : (l : List ℕ) (i : ℕ) → i < length l → length (doubled (take i l)) + length (doubled (get_or l i 0 ∷ [])) ≤ length (doubled l)
+double_fits l i h =
+    let e = ap length (double_more l i h) ∙ length-append (doubled (take i l)) (doubled (get_or l i 0 ∷ [])) in
+    let r = double_room l (i + 1) (length l) (omega arith) in
+    let w = ap (λ s. length (doubled s)) (take-length l) in
     omega arith
 
 pub record Doubling (w t l : List ℕ) (at i to : ℕ) : Type 0 where
@@ -107,60 +106,22 @@ pub doubling_none : (w l : List ℕ) (at : ℕ) → Doubling w w l at 0 at
 unfolding doubled
 doubling_none w l at = record { to_is = omega arith; text_is = splice_none w at }
 
-pub doubling_more : (w t l : List ℕ) (at i n to : ℕ) → i < n → n ≤ length l → at + length (doubled (take n l)) ≤ length w → Doubling w t l at i to
+pub doubling_more : (w t l : List ℕ) (at i to : ℕ) → i < length l → at + length (doubled l) ≤ length w → Doubling w t l at i to
     → Doubling w (splice t to (doubled (get_or l i 0 ∷ []))) l at (i + 1) (to + length (doubled (get_or l i 0 ∷ [])))
-doubling_more w t l at i n to h k fits d =
+doubling_more w t l at i to h fits d =
     let s = doubled (take i l) in
     let x = doubled (get_or l i 0 ∷ []) in
-    let e = double_more l i (omega arith) in
+    let e = double_more l i h in
     let f = ap length e ∙ length-append s x in
-    let g = double_room l i n (omega arith) in
+    let g = double_fits l i h in
     let p = d.to_is in
     record {
       to_is = omega arith;
       text_is = ap₂ (λ y a. splice y a x) d.text_is p ∙ splice_twice w s x at (omega arith) ∙ ap (splice w at) (sym e);
     }
 
--- a name is the bytes before its zero byte
-pub first_take : (l : List ℕ) → take (length (first_name l)) l ≡ first_name l
-unfolding first_name when◌then◌else◌
-first_take [] = refl
-first_take (b ∷ l) = go (nat_eq b 0) (first_take l)
-  where
-    go : (t : Bool) → take (length (first_name l)) l ≡ first_name l → take (length (when t then [] else b ∷ first_name l)) (b ∷ l) ≡ (when t then [] else b ∷ first_name l)
-    go true e = refl
-    go false e = ap (λ k. b ∷ k) e
-
-pub first_length : (l : List ℕ) → length (first_name l) ≤ length l
-unfolding first_name when◌then◌else◌
-first_length [] = omega arith
-first_length (b ∷ l) = go (nat_eq b 0) (first_length l)
-  where
-    go : (t : Bool) → length (first_name l) ≤ length l → length (when t then [] else b ∷ first_name l) ≤ suc (length l)
-    go true e = omega arith
-    go false e = omega arith
-
--- what a scan says of the text of the name
-module _ (names : List ℕ) (s : Scan) (e : s ≡ scanned (first_name names)) where
-  pub scan_length : s.length ≡ length (first_name names)
-  unfolding scanned
-  scan_length = ap (λ s. s.length) e
-
-  pub scan_plain : s.plain ≡ every bare (first_name names)
-  unfolding scanned
-  scan_plain = ap (λ s. s.plain) e
-
-  pub scan_within : s.length ≤ length names
-  scan_within = let x = scan_length in let y = first_length names in omega arith
-
-  pub scan_text : name_text (first_name names) ≡ quote_if s.plain ++ (doubled (take s.length names) ++ quote_if s.plain)
-  scan_text = name_parts (first_name names) ∙ ap₂ (λ p l. quote_if p ++ (doubled l ++ quote_if p)) (sym scan_plain) (sym (ap (λ n. take n names) scan_length ∙ first_take names))
-
-  pub scan_size : length (name_text (first_name names)) ≡ length (quote_if s.plain) + (length (doubled (take s.length names)) + length (quote_if s.plain))
-  scan_size =
-      let q = quote_if s.plain in
-      let d = doubled (take s.length names) in
-      ap length scan_text ∙ length-append q (d ++ q) ∙ ap (λ n. length q + n) (length-append d q)
+pub doubling_all : (w t l : List ℕ) (at i to : ℕ) → length l ≤ i → Doubling w t l at i to → (to ≡ at + length (doubled l)) × (t ≡ splice w at (doubled l))
+doubling_all w t l at i to h d = let e = take_all i l h in (d.to_is ∙ ap (λ s. at + length (doubled s)) e, d.text_is ∙ ap (λ s. splice w at (doubled s)) e)
 
 -- a comma, a number, CR LF
 pub number_size : (v : ℕ) → length (comma ∷ (decimal v ++ (cr ∷ lf ∷ []))) ≡ digit_count v + 3
@@ -172,58 +133,46 @@ unfolding row_text
 row_length s v = length-append (name_text s) (comma ∷ (decimal v ++ (cr ∷ lf ∷ [])))
 
 -- The next name: it ends within the names, and the others stand behind it.
-module _ (names : List ℕ) (at n : ℕ) (h : at ≤ length names) (z : zeros (drop at names) ≡ suc n) where
-  abbrev name : List ℕ
-  name = first_name (drop at names)
+module _ (names : List ℕ) (n : ℕ) (z : zeros names ≡ suc n) where
+  split : names ≡ first_name names ++ (0 ∷ behind_name names)
+  split = (split_name names (omega arith)).0
 
-  split : drop at names ≡ name ++ (0 ∷ behind_name (drop at names))
-  split = (split_name (drop at names) (omega arith)).0
-
-  pub name_within : at + length name + 1 ≤ length names
+  pub name_within : length (first_name names) + 1 ≤ length names
   name_within =
-      let a : length (drop at names) ≡ length name + suc (length (behind_name (drop at names))) = ap length split ∙ length-append name (0 ∷ behind_name (drop at names)) in
-      let b = length-drop at names in
+      let a : length names ≡ length (first_name names) + suc (length (behind_name names)) = ap length split ∙ length-append (first_name names) (0 ∷ behind_name names) in
       omega arith
 
-  pub behind_is : drop (at + length name + 1) names ≡ behind_name (drop at names)
+  pub behind_is : drop (length (first_name names) + 1) names ≡ behind_name names
   behind_is =
-      let e : at + length name + 1 ≡ at + (length name + 1) = omega arith in
-      ap (λ k. drop k names) e ∙ sym (drop-drop (length name + 1) at names) ∙ ap (drop (length name + 1)) split
-      ∙ ap (drop (length name + 1)) (sym (append_snoc name 0 (behind_name (drop at names))))
-      ∙ drop_at (name ++ (0 ∷ [])) (behind_name (drop at names)) (length name + 1) (length-append name (0 ∷ []))
+      let s = first_name names in
+      ap (drop (length s + 1)) split
+      ∙ ap (drop (length s + 1)) (sym (append_snoc s 0 (behind_name names)))
+      ∙ drop_at (s ++ (0 ∷ [])) (behind_name names) (length s + 1) (length-append s (0 ∷ []))
 
-  pub zeros_behind : zeros (drop (at + length name + 1) names) ≡ n
-  zeros_behind =
-      let e = (split_name (drop at names) (omega arith)).1 in
-      ap zeros behind_is ∙ (let g : zeros (behind_name (drop at names)) ≡ n = omega arith in g)
+  pub zeros_behind : zeros (behind_name names) ≡ n
+  zeros_behind = let e = (split_name names (omega arith)).1 in omega arith
 
-  -- the rows from here on: one, and those behind it
-  pub next_row : (ids : List ℕ) (i : ℕ) → i < length ids
-      → write_sheet (rows_in (drop at names) (drop i ids)) ≡ row_text (record { name = name; identifier = get_or ids i 0 }) ++ write_sheet (rows_in (drop (at + length name + 1) names) (drop (i + 1) ids))
+-- The rows: one, and those behind it.
+module _ (names ids others : List ℕ) (v : ℕ) (e : ids ≡ v ∷ others) where
+  pub next_row : write_sheet (rows_in names ids) ≡ row_text (record { name = first_name names; identifier = v }) ++ write_sheet (rows_in (behind_name names) others)
   unfolding write_sheet rows_in
-  next_row ids i l =
-      ap (λ k. write_sheet (rows_in (drop at names) k)) (drop-cons ids i 0 l)
-      ∙ ap₂ (λ x y. row_text (record { name = name; identifier = get_or ids i 0 }) ++ write_sheet (rows_in x y)) (sym behind_is) (ap (λ k. drop k ids) (sym (add-one i)))
+  next_row = ap (λ k. write_sheet (rows_in names k)) e
+
+  pub room_more : (room : Option ℕ) → less_by room (length (write_sheet (rows_in names ids)))
+      ≡ less_by (less_by room (length (row_text (record { name = first_name names; identifier = v })))) (length (write_sheet (rows_in (behind_name names) others)))
+  room_more room =
+      let line = row_text (record { name = first_name names; identifier = v }) in
+      let rest = write_sheet (rows_in (behind_name names) others) in
+      ap (λ k. less_by room (length k)) next_row ∙ ap (less_by room) (length-append line rest) ∙ sym (less_less room (length line) (length rest))
+
+-- The identifiers from a place on: one, and those behind it.
+pub next_value : {T : Type 0} (f : T → ℕ) (l : List T) (i : ℕ) (x : T) → i < length l → x ≡ get_or l i x → map f (drop i l) ≡ f x ∷ map f (drop (i + 1) l)
+next_value f l i x h e = ap (map f) (drop-cons l i x h ∙ ap₂ (λ y n. y ∷ drop n l) (sym e) (sym (add-one i)))
 
 -- no row is left
-pub rows_out : (names ids : List ℕ) (i : ℕ) → i ≡ length ids → write_sheet (rows_in names (drop i ids)) ≡ []
+pub rows_out : {T : Type 0} (f : T → ℕ) (names : List ℕ) (l : List T) (i : ℕ) → length l ≤ i → write_sheet (rows_in names (map f (drop i l))) ≡ []
 unfolding write_sheet rows_in
-rows_out names ids i e = ap (λ k. write_sheet (rows_in names (drop k ids))) e ∙ ap (λ k. write_sheet (rows_in names k)) (drop-length ids)
-
--- the length of a row, and of those from a place on
-module _ (names ids : List ℕ) (at i n : ℕ) (h : at ≤ length names) (l : i < length ids) (z : zeros (drop at names) ≡ suc n) where
-  abbrev line : List ℕ
-  line = row_text (record { name = first_name (drop at names); identifier = get_or ids i 0 })
-
-  abbrev others : List ℕ
-  others = write_sheet (rows_in (drop (at + length (first_name (drop at names)) + 1) names) (drop (i + 1) ids))
-
-  pub room_more : (room : Room)
-      → less_by room (length (write_sheet (rows_in (drop at names) (drop i ids)))) ≡ less_by (less_by room (row_size (scanned (first_name (drop at names))) (get_or ids i 0))) (length others)
-  room_more room =
-      ap (λ k. less_by room (length k)) (next_row names at n h z ids i l)
-      ∙ ap (less_by room) (length-append line others ∙ ap (λ k. k + length others) (row_size_lem (first_name (drop at names)) (get_or ids i 0)))
-      ∙ sym (less_less room (row_size (scanned (first_name (drop at names))) (get_or ids i 0)) (length others))
+rows_out f names l i h = ap (λ k. write_sheet (rows_in names (map f k))) (drop_of_length-le l h)
 
 -- What is written of a sheet: its rows up to a place, and what is left of them.
 pub record Written (all w t rest : List ℕ) (out : ℕ) : Type 0 where
@@ -254,33 +203,6 @@ pub written_all : (all w t rest : List ℕ) (out : ℕ) → rest ≡ [] → Writ
 written_all all w t rest out e k =
     let p : all ≡ k.so_far = k.parts ∙ ap (λ l. k.so_far ++ l) e ∙ append-nil k.so_far in
     (k.out_is ∙ ap length (sym p), k.text_is ∙ ap (laid w) (sym p))
-
--- One row more: where the next name begins, and what is left of the names and of the room.
-module _ (names ids : List ℕ) (at i : ℕ) (s : Scan) (h : at ≤ length names) (l : i < length ids) (z : zeros (drop at names) ≡ length ids - i)
-    (e : s ≡ scanned (first_name (drop at names))) where
-  some : zeros (drop at names) ≡ suc (length ids - (i + 1))
-  some = omega arith
-
-  size : s.length ≡ length (first_name (drop at names))
-  size = scan_length (drop at names) s e
-
-  pub step_within : at + s.length + 1 ≤ length names
-  step_within = let x = size in let y = name_within names at (length ids - (i + 1)) h some in omega arith
-
-  pub step_zeros : zeros (drop (at + s.length + 1) names) ≡ length ids - (i + 1)
-  step_zeros = ap (λ n. zeros (drop (at + n + 1) names)) size ∙ zeros_behind names at (length ids - (i + 1)) h some
-
-  pub step_rows : write_sheet (rows_in (drop at names) (drop i ids))
-      ≡ row_text (record { name = first_name (drop at names); identifier = get_or ids i 0 }) ++ write_sheet (rows_in (drop (at + s.length + 1) names) (drop (i + 1) ids))
-  step_rows =
-      next_row names at (length ids - (i + 1)) h some ids i l
-      ∙ ap (λ n. row_text (record { name = first_name (drop at names); identifier = get_or ids i 0 }) ++ write_sheet (rows_in (drop (at + n + 1) names) (drop (i + 1) ids))) (sym size)
-
-  pub step_room : (room : Room)
-      → less_by room (length (write_sheet (rows_in (drop at names) (drop i ids)))) ≡ less_by (less_by room (row_size s (get_or ids i 0))) (length (write_sheet (rows_in (drop (at + s.length + 1) names) (drop (i + 1) ids))))
-  step_room room =
-      room_more names ids at i (length ids - (i + 1)) h l some room
-      ∙ ap₂ (λ x n. less_by (less_by room (row_size x (get_or ids i 0))) (length (write_sheet (rows_in (drop (at + n + 1) names) (drop (i + 1) ids))))) (sym e) (sym size)
 
 -- What the call gives, question by question.
 module _ (names ids text : List ℕ) where

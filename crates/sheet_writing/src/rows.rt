@@ -1,45 +1,29 @@
 // A row: the room that it takes, and its text.
-ghost use Rattle.std.specs.Prelude.{◌≡◌, [], ◌∷◌, ◌++◌, ◌+◌, ◌≤◌, length, take};
+ghost use Rattle.std.specs.Prelude.{◌≡◌, [], ◌∷◌, ◌++◌, ◌+◌, ◌≤◌, Some, length};
 ghost use Rattle.lists.specs.Splice.{splice};
 ghost use Rattle.sheets.specs.Grammar.{cr, lf, comma, doubled};
-ghost use Rattle.sheets.specs.Writer.{first_name, decimal, name_text, row_text};
-ghost use Rattle.sheet_writing.specs.Scanning.{scanned, quote_if, less_by, row_size};
+ghost use Rattle.sheets.specs.Writer.{decimal, name_text, row_text};
+ghost use Rattle.sheet_writing.specs.Scanning.{quote_if, less_by};
 
 use crate::decimals::{digit_count, put_digits};
-use crate::{Room, Scan};
+use crate::names::Name;
 use sheets::{COMMA, CR, LF, QUOTE, put_byte};
-
-fn less(room: Room, cost: usize) -> Room
-    ensures { result ≡ less_by room cost }
-{
-    match room {
-        Room::Short => Room::Short,
-        Room::Left(n) => {
-            if n < cost {
-                return Room::Short;
-            }
-            Room::Left(n - cost)
-        }
-    }
-}
 
 // Two quotes around a name that may not stand unquoted.
 fn quote_cost(plain: bool) -> usize
     ensures { result ≡ length (quote_if plain) + length (quote_if plain) }
 {
-    if plain {
-        return 0;
-    }
-    2
+    if plain { 0 } else { 2 }
 }
 
 // What a row leaves of the room: part by part, so that no sum can be too large.
-pub(crate) fn row_room(room: Room, s: Scan, v: u32) -> Room
-    ensures { result ≡ less_by room (row_size s v) }
+pub(crate) fn row_room(room: usize, name: Name, v: u32) -> Option<usize>
+    ensures { result ≡ less_by (Some room) (length (row_text (record { name = name.entry.bytes.now; identifier = v }))) }
 {
-    let named = less(less(room, s.length), s.quotes);
-    let quoted = less(named, quote_cost(s.plain));
-    less(quoted, digit_count(v) + 3)
+    room.checked_sub(name.bytes.len())?
+        .checked_sub(name.quotes)?
+        .checked_sub(quote_cost(name.plain))?
+        .checked_sub(digit_count(v) + 3)
 }
 
 fn put_quote(text: &mut [u8], at: usize, plain: bool) -> usize
@@ -64,26 +48,24 @@ fn put_twice(text: &mut [u8], at: usize, b: u8) -> usize
     put_byte(text, at, b)
 }
 
-fn put_doubled(name: &[u8], count: usize, text: &mut [u8], at: usize) -> usize
-    requires { (count ≤ length name.now) × (at + length (doubled (take count name.now)) ≤ length text.old) }
-    ensures { (result ≡ at + length (doubled (take count name.now))) × (text.new ≡ splice text.old at (doubled (take count name.now))) }
+fn put_doubled(name: &[u8], text: &mut [u8], at: usize) -> usize
+    requires { at + length (doubled name.now) ≤ length text.old }
+    ensures { (result ≡ at + length (doubled name.now)) × (text.new ≡ splice text.old at (doubled name.now)) }
 {
     let mut to = at;
-    let mut i = 0;
-    while i < count {
-        to = put_twice(text, to, name[i]);
-        i += 1;
+    for b in name {
+        to = put_twice(text, to, *b);
     }
     to
 }
 
-fn put_name(names: &[u8], s: Scan, text: &mut [u8], at: usize) -> usize
-    requires { (s ≡ scanned (first_name names.now)) × (at + length (name_text (first_name names.now)) ≤ length text.old) }
-    ensures { (result ≡ at + length (name_text (first_name names.now))) × (text.new ≡ splice text.old at (name_text (first_name names.now))) }
+fn put_name(name: Name, text: &mut [u8], at: usize) -> usize
+    requires { at + length (name_text name.bytes.now) ≤ length text.old }
+    ensures { (result ≡ at + length (name_text name.entry.bytes.now)) × (text.new ≡ splice text.old at (name_text name.entry.bytes.now)) }
 {
-    let opened = put_quote(text, at, s.plain);
-    let named = put_doubled(names, s.length, text, opened);
-    put_quote(text, named, s.plain)
+    let opened = put_quote(text, at, name.plain);
+    let named = put_doubled(name.bytes, text, opened);
+    put_quote(text, named, name.plain)
 }
 
 // A comma, the identifier, CR LF.
@@ -98,11 +80,10 @@ fn put_number(text: &mut [u8], at: usize, v: u32) -> usize
     put_byte(text, end, LF)
 }
 
-// The row of the name at the front of the bytes.
-pub(crate) fn put_row(names: &[u8], s: Scan, v: u32, text: &mut [u8], at: usize) -> usize
-    requires { (s ≡ scanned (first_name names.now)) × (at + length (row_text (record { name = first_name names.now; identifier = v })) ≤ length text.old) }
-    ensures { (result ≡ at + length (row_text (record { name = first_name names.now; identifier = v }))) × (text.new ≡ splice text.old at (row_text (record { name = first_name names.now; identifier = v }))) }
+pub(crate) fn put_row(name: Name, v: u32, text: &mut [u8], at: usize) -> usize
+    requires { at + length (row_text (record { name = name.bytes.now; identifier = v })) ≤ length text.old }
+    ensures { (result ≡ at + length (row_text (record { name = name.entry.bytes.now; identifier = v }))) × (text.new ≡ splice text.old at (row_text (record { name = name.entry.bytes.now; identifier = v }))) }
 {
-    let named = put_name(names, s, text, at);
+    let named = put_name(name, text, at);
     put_number(text, named, v)
 }

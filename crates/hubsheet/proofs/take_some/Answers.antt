@@ -1,20 +1,10 @@
 -- `take_some`: what the read brought is a part of the block, and is taken. Assumes nothing.
-use mathlib.Core.Path.{refl}
-use Rattle.console.specs.Arrivals.{arrived}
+use Rattle.std.proofs.Common.{refl, inl, inr}
 use Rattle.hubsheet.specs.Held.{taken_bytes, taken_end, taken_failed}
 use Rattle.hubsheet.proofs.take_some.Goals as goal
 
-pub slice_bounds-feed-end : goal.slice_bounds-feed-end
-slice_bounds-feed-end c = (arrived c.receive-arrival.result c.in-Bytes.n _ c.in-Bytes.is c.receive-arrival.ensures).0
-
-pub slice_bounds-feed-end-in-Bytes : goal.slice_bounds-feed-end-in-Bytes
-slice_bounds-feed-end-in-Bytes c = (arrived c.receive-arrival.result c.in-Bytes.n _ c.in-Bytes.is c.receive-arrival.ensures).1
-
 pub returns-in-Bytes : goal.returns-in-Bytes
-returns-in-Bytes c = (c.feed-hubs.ensures.0, taken_bytes _ _ _ _ _ _ _ refl c.feed-hubs.ensures.1)
+returns-in-Bytes c = taken_bytes _ _ _ _ _ _ _ refl c.feed.ensures
 
 pub returns-in-End : goal.returns-in-End
-returns-in-End c = (c.requires.0, taken_end c.receive-arrival.result _ _ _ c.in-End.is)
-
-pub returns-in-Failed : goal.returns-in-Failed
-returns-in-Failed c = (c.requires.0, taken_failed c.receive-arrival.result _ _ _ c.in-Failed.is)
+returns-in-End c = elim c.in-End.is [ inl e ↦ taken_end c.receive-arrival.result _ _ _ e | inr e ↦ taken_failed c.receive-arrival.result _ _ _ e ]

@@ -11,4 +11,4 @@ pub returns : goal.returns
 unfolding refusal_line refusal_text print2
 returns c =
     let a = c.args in
-    (refl, three_pieces a.out.now 0 (print2 238) (print2 a.number) (10 ∷ []) _ _ _ 2 4 (c.put2.ensures ∙ put_piece a.out.now (print2 238) 0 (omega arith)) refl (c.put2-2.ensures ∙ put_piece _ (print2 a.number) 2 (let k = c.put2.auto.out in omega arith)) refl c.put_byte.ensures.1 (omega arith) ∙ laid_splice a.out.now (refusal_line a.number))
+    (refl, three_pieces a.out.now 0 (print2 238) (print2 a.number) (10 ∷ []) _ _ _ 2 4 (c.put2.ensures ∙ put_piece a.out.now (print2 238) 0 (omega arith)) refl (c.put2-2.ensures ∙ put_piece _ (print2 a.number) 2 (omega arith)) refl c.put_byte.ensures.1 (omega arith) ∙ laid_splice a.out.now (refusal_line a.number))

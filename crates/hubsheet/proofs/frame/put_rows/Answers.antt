@@ -1,5 +1,4 @@
 -- `put_rows`: 20, 21, or the frame. Assumes nothing.
-use mathlib.Core.Path.{sym}
 use native.Mathlib.Omega.{arith}
 use borrow.Author.Tests.{le-leb, lt-leb}
 use lib.ListN.{take}
@@ -14,16 +13,10 @@ pub returns-then-not-fits : goal.returns-then-not-fits
 unfolding rows_line refusal_line refusal_text print2 require when◌then◌else◌
 returns-then-not-fits c = search rules
 
-pub returns-then-rows-gt64 : goal.returns-then-rows-gt64
+pub returns-then-rows-gt-PLACES : goal.returns-then-rows-gt-PLACES
 unfolding rows_line refusal_line refusal_text print2 require when◌then◌else◌
-returns-then-rows-gt64 c = search (rules, lt-leb)
-
-pub slice_bounds-put_founding-end : goal.slice_bounds-put_founding-end
-slice_bounds-put_founding-end c = sym (length-take-le _ _ (omega arith))
-
-pub put_founding-requires : goal.put_founding-requires
-put_founding-requires c = let l = length-take-le c.args.rows c.args.identifiers.now (omega arith) in (omega arith, c.requires.1)
+returns-then-rows-gt-PLACES c = search (rules, lt-leb)
 
 pub returns : goal.returns
 unfolding rows_line require when◌then◌else◌
-returns c = let l = length-take-le c.args.rows c.args.identifiers.now (omega arith) in let s = founding_small (take c.args.rows c.args.identifiers.now) (omega arith) in let e = c.put_founding.ensures.0 in simp (c.if-not-fits.false, le-leb c.args.rows 64 c.if-rows-gt64.false) (omega arith, c.put_founding.ensures.0, c.put_founding.ensures.1)
+returns c = let l = length-take-le c.args.rows c.args.identifiers.now (omega arith) in let s = founding_small (take c.args.rows c.args.identifiers.now) (omega arith) in let e = c.put_founding.ensures.0 in simp (c.if-not-fits.false, le-leb c.args.rows 64 c.if-rows-gt-PLACES.false) (omega arith, c.put_founding.ensures.0, c.put_founding.ensures.1)

@@ -1,16 +1,17 @@
-use Rattle.sheets.specs.Reader.{number}
+-- `number`: by what the byte is. Assumes nothing.
+use Rattle.std.proofs.Common.{arith, eq-eqb, ne_eqb}
 use Rattle.lists.specs.Basics.{when◌then◌else◌}
-use borrow.Author.Tests.{eq-eqb, ne_eqb}
+use Rattle.sheets.specs.Reader.{number}
 use Rattle.hubsheet.proofs.places.number.Goals as goal
 
-pub returns-then-b-eq-QUOTE : goal.returns-then-b-eq-QUOTE
+pub returns-in-34 : goal.returns-in-34
 unfolding number when◌then◌else◌
-returns-then-b-eq-QUOTE c = simp (eq-eqb _ _ c.if-b-eq-QUOTE.true)
+returns-in-34 c = simp (eq-eqb _ _ c.in-34.is)
 
-pub returns-then-is_digit : goal.returns-then-is_digit
+pub returns-in_default : goal.returns-in_default
 unfolding number when◌then◌else◌
-returns-then-is_digit c = simp (c.if-is_digit.true, ← c.is_digit.ensures, ne_eqb _ _ c.if-b-eq-QUOTE.false)
+returns-in_default c = simp (c.if-is_digit.true, ← c.is_digit.ensures, ne_eqb c.args.b 34 (omega arith))
 
-pub returns : goal.returns
+pub returns-in_default-2 : goal.returns-in_default-2
 unfolding number when◌then◌else◌
-returns c = simp (c.if-is_digit.false, ← c.is_digit.ensures, ne_eqb _ _ c.if-b-eq-QUOTE.false)
+returns-in_default-2 c = simp (c.if-is_digit.false, ← c.is_digit.ensures, ne_eqb c.args.b 34 (omega arith))

@@ -1,16 +1,17 @@
-use Rattle.sheets.specs.Reader.{quoted}
+-- `quoted`: by what the byte is. Assumes nothing.
+use Rattle.std.proofs.Common.{arith, eq-eqb, ne_eqb}
 use Rattle.lists.specs.Basics.{when◌then◌else◌}
-use borrow.Author.Tests.{eq-eqb, ne_eqb}
+use Rattle.sheets.specs.Reader.{quoted}
 use Rattle.hubsheet.proofs.places.quoted.Goals as goal
 
-pub returns-then-b-eq-QUOTE : goal.returns-then-b-eq-QUOTE
+pub returns-in-34 : goal.returns-in-34
 unfolding quoted when◌then◌else◌
-returns-then-b-eq-QUOTE c = simp (eq-eqb _ _ c.if-b-eq-QUOTE.true)
+returns-in-34 c = simp (eq-eqb _ _ c.in-34.is)
 
-pub returns-then-b-eq0 : goal.returns-then-b-eq0
+pub returns-in-0 : goal.returns-in-0
 unfolding quoted when◌then◌else◌
-returns-then-b-eq0 c = simp (eq-eqb _ _ c.if-b-eq0.true, ne_eqb _ _ c.if-b-eq-QUOTE.false)
+returns-in-0 c = simp (eq-eqb _ _ c.in-0.is, ne_eqb c.args.b 34 (omega arith))
 
-pub returns : goal.returns
+pub returns-in_default : goal.returns-in_default
 unfolding quoted when◌then◌else◌
-returns c = simp (ne_eqb _ _ c.if-b-eq0.false, ne_eqb _ _ c.if-b-eq-QUOTE.false)
+returns-in_default c = simp (ne_eqb c.args.b 34 (omega arith), ne_eqb c.args.b 0 (omega arith))

@@ -1,36 +1,24 @@
--- `put_doubled`: the first i bytes of the name are written, quotes twice. Assumes nothing.
-use mathlib.Core.Path.{◌≡◌, refl, ◌∙◌}
-use native.Mathlib.Omega.{arith}
-use Rattle.sheet_writing.specs.Writing.{doubling_none, doubling_more, double_fits}
-use borrow.Author.Rules.{rules}
+-- `put_doubled`: the bytes of the name so far are written, quotes twice. Assumes nothing.
+use Rattle.std.proofs.Common.{arith}
+use Rattle.sheet_writing.specs.Writing.{doubling_none, doubling_more, doubling_all, double_fits}
 use Rattle.sheet_writing.proofs.rows.put_doubled.Goals as goal
 
-pub loop-i-init : goal.loop-i-init
-loop-i-init c = (search rules, doubling_none c.args.text.now c.args.name.now c.args.at, refl)
+pub loop-b-init : goal.loop-b-init
+loop-b-init c = doubling_none c.args.text.now c.args.name.now c.args.at
 
 pub put_twice-to-requires : goal.put_twice-to-requires
 put_twice-to-requires c =
-    let l = c.loop-i in
-    let a = c.args in
-    let p = c.requires in
-    let f = double_fits a.name.now l.i a.count (omega arith) p.0 in
-    let t = l.invariant.1.to_is in
-    let k = l.invariant.2 in
+    let l = c.loop-b in
+    let f = double_fits c.args.name.now l.b-index (omega arith) in
+    let t = l.invariant.to_is in
     omega arith
 
-pub loop-i-preserved : goal.loop-i-preserved
-loop-i-preserved c =
-    let l = c.loop-i in
+pub loop-b-preserved : goal.loop-b-preserved
+loop-b-preserved c =
+    let l = c.loop-b in
     let a = c.args in
-    let p = c.requires in
-    (search rules, simp (c.put_twice-to.ensures.0, c.put_twice-to.ensures.1) (doubling_more a.text.now l.text a.name.now a.at l.i a.count l.to (omega arith) p.0 p.1 l.invariant.1), c.put_twice-to.auto.text ∙ l.invariant.2)
-
-pub shape_of-text : goal.shape_of-text
-shape_of-text c = c.loop-i.invariant.2
+    let p = c.put_twice-to.ensures in
+    rw (p.0, p.1) (doubling_more a.text.now l.text a.name.now a.at l.b-index l.to (omega arith) c.requires l.invariant)
 
 pub returns : goal.returns
-returns c =
-    let l = c.loop-i in
-    let a = c.args in
-    let e : l.i ≡ a.count = omega arith in
-    (rw (← e) l.invariant.1.to_is, rw (← e) l.invariant.1.text_is)
+returns c = doubling_all c.args.text.now c.loop-b.text c.args.name.now c.args.at c.loop-b.b-index c.loop-b.to (omega arith) c.loop-b.invariant

@@ -1,4 +1,4 @@
--- src/rows.rt:38:9
+-- `quote_cost`: two quotes, or none. Assumes nothing.
 use Rattle.sheet_writing.specs.Scanning.{quote_if}
 use Rattle.sheet_writing.proofs.rows.quote_cost.Goals as goal
 
@@ -6,7 +6,6 @@ pub returns-then-plain : goal.returns-then-plain
 unfolding quote_if
 returns-then-plain c = simp c.if-plain.true
 
--- src/rows.rt:34:1
-pub returns : goal.returns
+pub returns-else-plain : goal.returns-else-plain
 unfolding quote_if
-returns c = simp c.if-plain.false
+returns-else-plain c = simp c.if-plain.false

@@ -1,57 +1,47 @@
--- `put_rows`: what is written, and the rows from i on, are the sheet. Assumes nothing.
-use mathlib.Core.Path.{◌≡◌, refl, ◌∙◌, ap}
-use Prim.Native.Nat.{◌+◌}
-use native.Mathlib.Omega.{arith}
-use lib.ListN.{drop, get_or}
-use Rattle.lists.specs.Splice.{part_from}
-use Rattle.sheets.specs.Writer.{first_name, row_text, rows_in, write_sheet}
+-- `put_rows`: what is written, and the rows that are left, are the sheet. Assumes nothing.
+use Rattle.std.proofs.Common.{◌∙◌, ap, ◌+◌, ◌-◌, length, map, drop, arith}
+use Rattle.sheets.specs.Writer.{first_name, behind_name, row_text, rows_in, write_sheet, zeros}
 use Rattle.sheets.specs.Calls.{sheet_text}
-use Rattle.sheet_writing.specs.Scanning.{scanned}
-use Rattle.sheet_writing.specs.Writing.{written_none, written_room, written_more, written_all, step_within, step_zeros, step_rows, rows_out}
-use borrow.Author.Rules.{rules}
+use Rattle.sheet_writing.specs.Writing.{written_none, written_room, written_more, written_all, zeros_behind, next_value, next_row, rows_out}
 use Rattle.sheet_writing.proofs.writing.put_rows.Goals as goal
 
-pub loop-i-init : goal.loop-i-init
+pub loop-identifier-init : goal.loop-identifier-init
 unfolding sheet_text
-loop-i-init c = let p = c.requires in (search rules, search rules, omega arith, written_none (sheet_text c.args.names.now c.args.identifiers.now) c.args.text.now, refl)
+loop-identifier-init g c = record { left = omega arith; written = written_none (sheet_text c.args.names.now (map g.T.Identifier.value c.args.identifiers.now)) c.args.text.now }
 
 pub put_row-out-requires : goal.put_row-out-requires
-put_row-out-requires c =
+put_row-out-requires g c =
+    let f = g.T.Identifier.value in
     let a = c.args in
-    let l = c.loop-i in
-    let e : c.scan-s.result ≡ scanned (first_name (drop l.at a.names.now)) = c.scan-s.ensures ∙ ap (λ x. scanned (first_name x)) (part_from a.names.now l.at) in
-    let s = c.scan-s.result in
-    let r = written_room (sheet_text a.names.now a.identifiers.now) a.text.now l.text (write_sheet (rows_in (drop l.at a.names.now) (drop l.i a.identifiers.now))) (row_text (record { name = first_name (drop l.at a.names.now); identifier = get_or a.identifiers.now l.i 0 })) (write_sheet (rows_in (drop (l.at + s.length + 1) a.names.now) (drop (l.i + 1) a.identifiers.now))) l.out c.requires.1 (step_rows a.names.now a.identifiers.now l.at l.i s l.invariant.1 (omega arith) l.invariant.2 e) l.invariant.3 in
-    let k = l.invariant.4 in
-    (c.scan-s.ensures, rw (part_from a.names.now l.at) (omega arith))
+    let l = c.loop-identifier in
+    let ids = a.identifiers.now in
+    let d = map f (drop l.identifier-index ids) in
+    let others = map f (drop (l.identifier-index + 1) ids) in
+    let v = f c.identifier-item.result in
+    let e = next_row l.rest.now d others v (next_value f ids l.identifier-index c.identifier-item.result (omega arith) c.identifier-item.is) in
+    let r = written_room (sheet_text a.names.now (map f ids)) a.text.now l.text (write_sheet (rows_in l.rest.now d)) (row_text (record { name = first_name l.rest.now; identifier = v })) (write_sheet (rows_in (behind_name l.rest.now) others)) l.out c.requires.1 e l.invariant.written in
+    rw (c.next.ensures.name, c.word.ensures) (omega arith)
 
-pub overflow_add-at : goal.overflow_add-at
-overflow_add-at c = let a = c.args in
-    let l = c.loop-i in
-    let e : c.scan-s.result ≡ scanned (first_name (drop l.at a.names.now)) = c.scan-s.ensures ∙ ap (λ x. scanned (first_name x)) (part_from a.names.now l.at) in
-    let w = step_within a.names.now a.identifiers.now l.at l.i c.scan-s.result l.invariant.1 (omega arith) l.invariant.2 e in
-    omega arith
-
-pub overflow_add-at-in-loop-i : goal.overflow_add-at-in-loop-i
-overflow_add-at-in-loop-i c = let a = c.args in
-    let l = c.loop-i in
-    let e : c.scan-s.result ≡ scanned (first_name (drop l.at a.names.now)) = c.scan-s.ensures ∙ ap (λ x. scanned (first_name x)) (part_from a.names.now l.at) in
-    let w = step_within a.names.now a.identifiers.now l.at l.i c.scan-s.result l.invariant.1 (omega arith) l.invariant.2 e in
-    omega arith
-
-pub loop-i-preserved : goal.loop-i-preserved
-loop-i-preserved c =
+pub loop-identifier-preserved : goal.loop-identifier-preserved
+loop-identifier-preserved g c =
+    let f = g.T.Identifier.value in
     let a = c.args in
-    let l = c.loop-i in
-    let e : c.scan-s.result ≡ scanned (first_name (drop l.at a.names.now)) = c.scan-s.ensures ∙ ap (λ x. scanned (first_name x)) (part_from a.names.now l.at) in
-    let s = c.scan-s.result in
-    let q = simp (part_from a.names.now l.at) at c.put_row-out.ensures in
-    (search rules, step_within a.names.now a.identifiers.now l.at l.i s l.invariant.1 (omega arith) l.invariant.2 e, step_zeros a.names.now a.identifiers.now l.at l.i s l.invariant.1 (omega arith) l.invariant.2 e, rw (q.0, q.1) (written_more (sheet_text a.names.now a.identifiers.now) a.text.now l.text (write_sheet (rows_in (drop l.at a.names.now) (drop l.i a.identifiers.now))) (row_text (record { name = first_name (drop l.at a.names.now); identifier = get_or a.identifiers.now l.i 0 })) (write_sheet (rows_in (drop (l.at + s.length + 1) a.names.now) (drop (l.i + 1) a.identifiers.now))) l.out (step_rows a.names.now a.identifiers.now l.at l.i s l.invariant.1 (omega arith) l.invariant.2 e) l.invariant.3), c.put_row-out.auto.text ∙ l.invariant.4)
-
-pub shape_of-text : goal.shape_of-text
-shape_of-text c = c.loop-i.invariant.4
+    let l = c.loop-identifier in
+    let ids = a.identifiers.now in
+    let d = map f (drop l.identifier-index ids) in
+    let others = map f (drop (l.identifier-index + 1) ids) in
+    let v = f c.identifier-item.result in
+    let e = next_row l.rest.now d others v (next_value f ids l.identifier-index c.identifier-item.result (omega arith) c.identifier-item.is) in
+    let n = c.next.ensures in
+    let p = rw (n.name, c.word.ensures) at c.put_row-out.ensures in
+    record {
+      left = ap zeros n.behind ∙ zeros_behind l.rest.now (length ids - (l.identifier-index + 1)) (omega arith);
+      written = rw (p.0, p.1, n.behind) (written_more (sheet_text a.names.now (map f ids)) a.text.now l.text (write_sheet (rows_in l.rest.now d)) (row_text (record { name = first_name l.rest.now; identifier = v })) (write_sheet (rows_in (behind_name l.rest.now) others)) l.out e l.invariant.written);
+    }
 
 pub returns : goal.returns
-returns c = let a = c.args in
-    let l = c.loop-i in
-    written_all (sheet_text a.names.now a.identifiers.now) a.text.now l.text (write_sheet (rows_in (drop l.at a.names.now) (drop l.i a.identifiers.now))) l.out (rows_out (drop l.at a.names.now) a.identifiers.now l.i (omega arith)) l.invariant.3
+returns g c =
+    let a = c.args in
+    let l = c.loop-identifier in
+    let d = map g.T.Identifier.value a.identifiers.now in
+    written_all (sheet_text a.names.now d) a.text.now l.text _ l.out (rows_out g.T.Identifier.value l.rest.now a.identifiers.now l.identifier-index (omega arith)) l.invariant.written

@@ -1,46 +1,48 @@
--- `room_left`: what all rows leave is what those from i on leave of what is left. Assumes nothing.
-use mathlib.Core.Path.{◌≡◌, refl, ◌∙◌, ap, sym}
-use Prim.Native.Nat.{◌+◌}
-use native.Mathlib.Omega.{arith}
-use lib.ListN.{length, drop}
-use Rattle.lists.specs.Splice.{part_from}
-use Rattle.sheets.specs.Writer.{first_name, rows_in, write_sheet}
+-- `room_left`: what all rows leave is what those that are left leave of what is left. Assumes nothing.
+use Rattle.std.proofs.Common.{refl, ◌∙◌, ap, ap₂, sym, ◌+◌, ◌-◌, Some, length, map, drop, arith}
+use Rattle.sheets.specs.Writer.{behind_name, row_text, rows_in, write_sheet, zeros}
 use Rattle.sheets.specs.Calls.{sheet_text}
-use Rattle.sheet_writing.specs.Scanning.{scanned, less_by, less_none}
-use Rattle.sheet_writing.specs.Writing.{step_within, step_zeros, step_room, rows_out}
-use borrow.Author.Rules.{rules}
+use Rattle.sheet_writing.specs.Scanning.{less_by, less_none}
+use Rattle.sheet_writing.specs.Writing.{zeros_behind, next_value, room_more, rows_out}
 use Rattle.sheet_writing.proofs.writing.room_left.Goals as goal
 
-pub loop-i-init : goal.loop-i-init
+pub loop-identifier-init : goal.loop-identifier-init
 unfolding sheet_text
-loop-i-init c = let p = c.requires in (search rules, search rules, omega arith, refl)
+loop-identifier-init g c = record { left = omega arith; room_is = refl }
 
-pub overflow_add-at : goal.overflow_add-at
-overflow_add-at c =
+pub returns-in_err-room : goal.returns-in_err-room
+unfolding less_by
+returns-in_err-room g c =
+    let f = g.T.Identifier.value in
     let a = c.args in
-    let l = c.loop-i in
-    let e : c.scan-s.result ≡ scanned (first_name (drop l.at a.names.now)) = c.scan-s.ensures ∙ ap (λ x. scanned (first_name x)) (part_from a.names.now l.at) in
-    let w = step_within a.names.now a.identifiers.now l.at l.i c.scan-s.result l.invariant.1 (omega arith) l.invariant.2 e in
-    omega arith
+    let l = c.loop-identifier in
+    let ids = a.identifiers.now in
+    let others = map f (drop (l.identifier-index + 1) ids) in
+    let e = next_value f ids l.identifier-index c.identifier-item.result (omega arith) c.identifier-item.is in
+    let n = c.next.ensures in
+    c.from_residual.ensures
+    ∙ ap (λ r. less_by r (length (write_sheet (rows_in (behind_name l.rest.now) others)))) (sym (c.in_err-room.was) ∙ c.row_room.ensures ∙ ap₂ (λ s v. less_by (Some l.room) (length (row_text (record { name = s; identifier = v })))) n.name c.word.ensures)
+    ∙ sym (room_more l.rest.now (map f (drop l.identifier-index ids)) others (f c.identifier-item.result) e (Some l.room))
+    ∙ sym l.invariant.room_is
 
-pub overflow_add-at-in-loop-i : goal.overflow_add-at-in-loop-i
-overflow_add-at-in-loop-i c =
+pub loop-identifier-preserved : goal.loop-identifier-preserved
+loop-identifier-preserved g c =
+    let f = g.T.Identifier.value in
     let a = c.args in
-    let l = c.loop-i in
-    let e : c.scan-s.result ≡ scanned (first_name (drop l.at a.names.now)) = c.scan-s.ensures ∙ ap (λ x. scanned (first_name x)) (part_from a.names.now l.at) in
-    let w = step_within a.names.now a.identifiers.now l.at l.i c.scan-s.result l.invariant.1 (omega arith) l.invariant.2 e in
-    omega arith
-
-pub loop-i-preserved : goal.loop-i-preserved
-loop-i-preserved c =
-    let a = c.args in
-    let l = c.loop-i in
-    let e : c.scan-s.result ≡ scanned (first_name (drop l.at a.names.now)) = c.scan-s.ensures ∙ ap (λ x. scanned (first_name x)) (part_from a.names.now l.at) in
-    let s = c.scan-s.result in
-    (search rules, step_within a.names.now a.identifiers.now l.at l.i s l.invariant.1 (omega arith) l.invariant.2 e, step_zeros a.names.now a.identifiers.now l.at l.i s l.invariant.1 (omega arith) l.invariant.2 e, l.invariant.3 ∙ step_room a.names.now a.identifiers.now l.at l.i s l.invariant.1 (omega arith) l.invariant.2 e l.room ∙ ap (λ r. less_by r (length (write_sheet (rows_in (drop (l.at + s.length + 1) a.names.now) (drop (l.i + 1) a.identifiers.now))))) (sym c.row_room-room.ensures))
+    let l = c.loop-identifier in
+    let ids = a.identifiers.now in
+    let others = map f (drop (l.identifier-index + 1) ids) in
+    let e = next_value f ids l.identifier-index c.identifier-item.result (omega arith) c.identifier-item.is in
+    let n = c.next.ensures in
+    record {
+      left = ap zeros n.behind ∙ zeros_behind l.rest.now (length ids - (l.identifier-index + 1)) (omega arith);
+      room_is =
+          l.invariant.room_is ∙ room_more l.rest.now (map f (drop l.identifier-index ids)) others (f c.identifier-item.result) e (Some l.room)
+          ∙ ap₂ (λ r n. less_by r (length (write_sheet (rows_in n others)))) (ap₂ (λ s v. less_by (Some l.room) (length (row_text (record { name = s; identifier = v })))) (sym n.name) (sym c.word.ensures) ∙ sym c.row_room.ensures ∙ c.in_ok-room.was) (sym n.behind);
+    }
 
 pub returns : goal.returns
-returns c =
-    let a = c.args in
-    let l = c.loop-i in
-    less_none l.room ∙ ap (λ x. less_by l.room (length x)) (sym (rows_out (drop l.at a.names.now) a.identifiers.now l.i (omega arith))) ∙ sym l.invariant.3
+returns g c =
+    let f = g.T.Identifier.value in
+    let l = c.loop-identifier in
+    less_none (Some l.room) ∙ ap (λ x. less_by (Some l.room) (length x)) (sym (rows_out f l.rest.now c.args.identifiers.now l.identifier-index (omega arith))) ∙ sym l.invariant.room_is

@@ -1,15 +1,14 @@
--- `room_left`: what all rows leave is what those from i on leave of what is left. Assumes nothing.
-use mathlib.Core.Path.{◌≡◌}
-use Prim.Native.Nat.{◌≤◌, ◌-◌}
-use lib.ListN.{length, drop}
-use Rattle.sheet_writing.specs.declared.Room.TheVariants.{Left}
+-- `room_left`: what all rows leave is what those that are left leave of what is left. Assumes nothing.
+use Rattle.std.proofs.Common.{◌≡◌, ◌-◌, Some, length, map, drop}
 use Rattle.sheets.specs.Writer.{rows_in, write_sheet, zeros}
 use Rattle.sheets.specs.Calls.{sheet_text}
 use Rattle.sheet_writing.specs.Scanning.{less_by}
 use Rattle.sheet_writing.proofs.writing.room_left.Given as goal
 
-abbrev pub invariant-loop-i : goal.invariant-loop-i
-invariant-loop-i l = (l.i ≤ length l.identifiers) × (l.at ≤ length l.names) × (zeros (drop l.at l.names) ≡ length l.identifiers - l.i) × (less_by (Left l.limit) (length (sheet_text l.names l.identifiers)) ≡ less_by l.room (length (write_sheet (rows_in (drop l.at l.names) (drop l.i l.identifiers)))))
-
-abbrev pub decreases-loop-i : goal.decreases-loop-i
-decreases-loop-i l = length l.identifiers - l.i
+abbrev pub invariant-loop-identifier : goal.invariant-loop-identifier
+invariant-loop-identifier g l =
+    let value = g.T.Identifier.value in
+    record {
+      left : zeros l.rest ≡ length l.identifiers - l.identifier-index;
+      room_is : less_by (Some l.limit) (length (sheet_text l.names (map value l.identifiers))) ≡ less_by (Some l.room) (length (write_sheet (rows_in l.rest (map value (drop l.identifier-index l.identifiers)))));
+    }

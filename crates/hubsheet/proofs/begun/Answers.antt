@@ -1,7 +1,0 @@
--- `begun`: nothing was read. Assumes nothing.
-use native.Mathlib.Omega.{arith}
-use Rattle.hubsheet.specs.Held.{holds_none}
-use Rattle.hubsheet.proofs.begun.Goals as goal
-
-pub returns : goal.returns
-returns c = (omega arith, holds_none)

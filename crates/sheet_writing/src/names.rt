@@ -1,0 +1,76 @@
+// The names to be written: is there one for each identifier, and what is in it?
+ghost use Rattle.std.specs.Prelude.{◌≡◌, ◌<◌, nat_eq, position};
+ghost use Rattle.std.specs.List.{list_all};
+ghost use Rattle.lists.specs.Basics.{every};
+ghost use Rattle.sheets.specs.Grammar.{bare as bare_spec};
+ghost use Rattle.sheets.specs.Writer.{first_name, behind_name, zeros as zeros_spec, ends_well as ends_well_spec, names_for as names_for_spec};
+ghost use Rattle.sheet_writing.specs.Scanning.{quotes as quotes_spec};
+
+use sheets::{QUOTE, bare};
+
+fn zeros(names: &[u8]) -> usize
+    ensures { result ≡ zeros_spec names.now }
+{
+    names.iter().filter(|b| **b == 0).count()
+}
+
+fn ends_well(names: &[u8]) -> bool
+    ensures { result ≡ ends_well_spec names.now }
+{
+    match names.last() {
+        Some(b) => *b == 0,
+        None => true,
+    }
+}
+
+pub(crate) fn names_for(names: &[u8], count: usize) -> bool
+    ensures { result ≡ names_for_spec names.now count }
+{
+    zeros(names) == count && ends_well(names)
+}
+
+fn zero_in(names: &[u8]) -> Option<usize>
+    ensures { result ≡ position (λ b. nat_eq b 0) names.now }
+{
+    names.iter().position(|b| *b == 0)
+}
+
+fn quotes_in(name: &[u8]) -> usize
+    ensures { result ≡ quotes_spec name.now }
+{
+    name.iter().filter(|b| **b == QUOTE).count()
+}
+
+fn is_plain(name: &[u8]) -> bool
+    ensures { result ≡ list_all bare_spec name.now }
+{
+    name.iter().all(|b| bare(*b))
+}
+
+// A name, and what is known of it before it is written: how many quotes it has, and whether it may stand unquoted.
+#[derive(Clone, Copy)]
+pub(crate) struct Name<'a> {
+    pub bytes: &'a [u8],
+    pub quotes: usize,
+    pub plain: bool,
+    ghost counted: { quotes ≡ quotes_spec bytes.now },
+    ghost looked_at: { plain ≡ every bare_spec bytes.now },
+}
+
+impl<'a> Name<'a> {
+    // The name at the front of the bytes, up to its zero byte, and what is behind that.
+    pub fn next(names: &'a [u8]) -> (Name<'a>, &'a [u8])
+        requires { 0 < zeros_spec names.now }
+        ensures name { result.0.bytes.now ≡ first_name names.now }
+        ensures behind { result.1.now ≡ behind_name names.now }
+    {
+        let end = zero_in(names).unwrap_or(names.len());
+        let (bytes, rest) = names.split_at(end);
+        let name = Name {
+            bytes,
+            quotes: quotes_in(bytes),
+            plain: is_plain(bytes),
+        };
+        (name, &rest[1..])
+    }
+}
