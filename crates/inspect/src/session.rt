@@ -7,7 +7,7 @@ use protocol::form::RECORD_WORDS;
 use protocol::{Answer, Frame, Outcome, Ownership, Roll, Tally, answer_kinds};
 use std::fmt;
 use std::fmt::Write;
-use wording::{Answered, Counted, Given, HubRow, Owner, Places, RollLength, UNWRITTEN};
+use wording::{Answered, Counted, Given, HubRow, Numbered, Places, UNWRITTEN};
 
 // What is kept from line to line: a record, the tally of its steps, and how many of its words are lent to a call.
 #[derive(Drop)]
@@ -92,8 +92,13 @@ impl Session {
     fn tell_roll(&self, hub: u32, places: usize, out: &mut AnswerText) -> fmt::Result {
         let mut output = [UNWRITTEN; MOST_PLACES];
         let lent = &mut output[..places.min(MOST_PLACES)];
-        let length = roll(ring::roll_call(self.words(), hub, lent)).map(RollLength);
-        write!(out, "roll from {hub}, {}:{}", Given(length), Places(lent))
+        let length = roll(ring::roll_call(self.words(), hub, lent));
+        write!(
+            out,
+            "roll from {hub}, {}:{}",
+            Given(length.map(|n| Numbered("length", n))),
+            Places(lent)
+        )
     }
 
     fn inquire(&mut self, inquiry: Inquiry, out: &mut AnswerText) -> fmt::Result {
@@ -104,8 +109,9 @@ impl Session {
             }
             Inquiry::Roll(hub, places) => self.tell_roll(hub, places, out),
             Inquiry::Owner(number) => {
-                let owner = ownership(ring::owner(self.words(), number)).map(Owner);
-                write!(out, "owner of {number}: {}", Given(owner))
+                let owner = ownership(ring::owner(self.words(), number));
+                let named = owner.map(|hub| Numbered("hub", hub));
+                write!(out, "owner of {number}: {}", Given(named))
             }
             Inquiry::Waiting => write!(out, "waiting: {}", Given(waiting(self.words()))),
             Inquiry::Counts => write!(out, "{}", Counted(self.tally)),

@@ -1,10 +1,11 @@
 // The bytes of a read, line by line. An answer is written before the next line is looked at.
-ghost use Rattle.std.specs.Prelude.{◌≤◌};
-
 use crate::bounds::{AnswerText, LINE_BYTES};
 use crate::session::Session;
 use console::{Arrival, drop_line, gather, receive, send};
 use std::fmt::Write;
+
+// As which the program tells of what failed.
+const NAME: &[u8] = b"inspect";
 
 // The session, the bytes held of a line that has not ended yet, and room for an answer.
 #[derive(Drop)]
@@ -38,7 +39,7 @@ impl Desk {
         let _ = session.answer(&line[..count], text);
         let _ = writeln!(text);
         *held = 0;
-        send(rt, b"inspect", text.bytes())
+        send(rt, NAME, text.bytes())
     }
 
     // Once an answer could not be written no further line is answered.
@@ -59,7 +60,7 @@ impl Desk {
     // One read, and the answers to every line that it ends. At the end of the input the last line may lack its LF, and where nothing has begun
     // there is none. False where nothing more comes, or nobody sees the answers.
     pub fn take_some(&mut self, rt: &HostRuntime, input: &mut [u8]) -> bool {
-        match receive(rt, b"inspect", input) {
+        match receive(rt, NAME, input) {
             Arrival::Bytes(n) => self.take_bytes(rt, &input[..n]),
             Arrival::End => {
                 if self.held > 0 {
@@ -68,7 +69,7 @@ impl Desk {
                 false
             }
             Arrival::Failed => {
-                drop_line(rt, b"inspect", self.held);
+                drop_line(rt, NAME, self.held);
                 false
             }
         }

@@ -16,6 +16,16 @@ impl<T: fmt::Display> fmt::Display for Given<T> {
     }
 }
 
+// A number, behind what it is the number of: the hub that an owner query names, the length of a roll.
+#[derive(Clone, Copy)]
+pub struct Numbered(pub &'static str, pub u32);
+
+impl fmt::Display for Numbered {
+    fn fmt<W: fmt::Write>(&self, f: &mut fmt::Formatter<W>) -> fmt::Result {
+        write!(f, "{} {}", self.0, self.1)
+    }
+}
+
 // The answer of an accepted step. A quiet one has its kind alone, and only a found one has more than a hub.
 #[derive(Clone, Copy)]
 pub struct Answered(pub Answer);

@@ -9,8 +9,8 @@ mod refusals;
 mod rows;
 mod text;
 
-pub use answers::{Answered, Counted, Given};
+pub use answers::{Answered, Counted, Given, Numbered};
 pub use messages::{Sent, Waiting};
 pub use refusals::Refused;
-pub use rows::{HubRow, Owner, Places, RollLength, UNWRITTEN};
+pub use rows::{HubRow, Places, UNWRITTEN};
 pub use text::Text;

@@ -34,20 +34,6 @@ pub fn kind_name(kind: u32) -> &'static str {
     }
 }
 
-pub fn lock_name(lock: u32) -> &'static str {
-    match lock {
-        0 => "free",
-        _ => "taken",
-    }
-}
-
-pub fn flag_name(flag: u32) -> &'static str {
-    match flag {
-        0 => "down",
-        _ => "up",
-    }
-}
-
 // A pointer is a hub number or none.
 #[derive(Clone, Copy)]
 pub struct Pointer(pub u32);

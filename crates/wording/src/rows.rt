@@ -1,5 +1,5 @@
-// A hub's row, a roll and an owner (docs/INSPECT.md, 'Answers').
-use crate::names::{Pointer, flag_name, lock_name, state_name};
+// A hub's row, and a roll (docs/INSPECT.md, 'Answers').
+use crate::names::{Pointer, state_name};
 use std::fmt;
 
 // The part that `hub_row` hands out: seven words, or none.
@@ -11,12 +11,12 @@ impl fmt::Display for HubRow<'_> {
         let [identifier, state, lock, flag, pred, succ, oldpred, ..] = self.0 else {
             return write!(f, "none");
         };
+        let lock = if *lock == 0 { "free" } else { "taken" };
+        let flag = if *flag == 0 { "down" } else { "up" };
         write!(
             f,
-            "identifier {identifier}, {}, lock {}, flag {}, ",
-            state_name(*state),
-            lock_name(*lock),
-            flag_name(*flag)
+            "identifier {identifier}, {}, lock {lock}, flag {flag}, ",
+            state_name(*state)
         )?;
         write!(
             f,
@@ -25,26 +25,6 @@ impl fmt::Display for HubRow<'_> {
             Pointer(*succ),
             Pointer(*oldpred)
         )
-    }
-}
-
-// The hub that holds a number.
-#[derive(Clone, Copy)]
-pub struct Owner(pub u32);
-
-impl fmt::Display for Owner {
-    fn fmt<W: fmt::Write>(&self, f: &mut fmt::Formatter<W>) -> fmt::Result {
-        write!(f, "hub {}", self.0)
-    }
-}
-
-// How many hubs a roll has.
-#[derive(Clone, Copy)]
-pub struct RollLength(pub u32);
-
-impl fmt::Display for RollLength {
-    fn fmt<W: fmt::Write>(&self, f: &mut fmt::Formatter<W>) -> fmt::Result {
-        write!(f, "length {}", self.0)
     }
 }
 
