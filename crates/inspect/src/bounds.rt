@@ -1,7 +1,6 @@
-// How much there is of everything, and where a part can end.
-ghost use Rattle.std.specs.Prelude.{◌≤◌};
-
+// How much there is of everything.
 use protocol::form::RECORD_WORDS;
+use wording::Text;
 
 // The record, and two words behind it.
 pub const KEPT_WORDS: usize = RECORD_WORDS + 2;
@@ -9,16 +8,10 @@ pub const KEPT_WORDS: usize = RECORD_WORDS + 2;
 // The longest output of a roll call: as many places as a ring has hubs.
 pub const MOST_PLACES: usize = 64;
 
-// The last of the nine counts.
-pub const LAST_COUNT: u64 = 8;
+// The longest frame. A line has room for one byte more, so that what is longer still does not read.
+pub const FRAME_BYTES: usize = 514;
 
-// The smaller of two lengths: an end that a part of a block can have.
+pub const LINE_BYTES: usize = 515;
 
-pub fn least(a: usize, b: usize) -> usize
-    ensures { (result ≤ a) × (result ≤ b) }
-{
-    if a < b {
-        return a;
-    }
-    b
-}
+// More bytes than the longest answer, that of 256 waiting questions.
+pub type AnswerText = Text<32768>;

@@ -1,7 +1,8 @@
 // What a line asks for that is no frame (docs/INSPECT.md): a word, and numbers behind it.
-use crate::bounds::{KEPT_WORDS, LAST_COUNT, MOST_PLACES};
-use crate::numerals::{Numeral, number_at};
-use lists::both;
+use crate::bounds::{FRAME_BYTES, KEPT_WORDS, MOST_PLACES};
+use protocol::answer_kinds::REFUSAL;
+use std::str;
+use std::str::{FromStr, Split};
 
 #[derive(Clone, Copy)]
 pub enum Inquiry {
@@ -12,156 +13,52 @@ pub enum Inquiry {
     Counts,
     Lend(usize),
     Word(usize, u32),
-    Count(usize, u64),
-    Unreadable,
+    Count(u32, u64),
 }
 
-// Up to two numbers, and whether the line has just these.
-#[derive(Clone, Copy)]
-struct Numbers {
-    first: u64,
-    second: u64,
-    are: bool,
-}
-
-fn no_numbers() -> Numbers {
-    Numbers {
-        first: 0,
-        second: 0,
-        are: false,
+// The next of a line's words is a number of the type asked for. It has digits alone: `parse` would take a plus before them.
+fn number<T: FromStr>(words: &mut Split<'_, char>) -> Option<T>
+where
+    T::Err: Drop,
+{
+    let word = words.next()?;
+    if !word.bytes().all(|b| b.is_ascii_digit()) {
+        return None;
     }
+    word.parse().ok()
 }
 
-fn begins(line: &[u8], word: &[u8]) -> bool {
-    if line.len() < word.len() {
-        return false;
-    }
-    let mut i = 0;
-    while i < word.len() {
-        if line[i] != word[i] {
-            return false;
-        }
-        i += 1;
-    }
-    true
+fn number_up_to(words: &mut Split<'_, char>, most: usize) -> Option<usize> {
+    number(words).filter(|n| *n <= most)
 }
 
-fn is_word(line: &[u8], word: &[u8]) -> bool {
-    both(begins(line, word), line.len() == word.len())
-}
-
-// One number, from a place on to the end of the line.
-fn one(line: &[u8], at: usize, most: u64) -> Numbers {
-    let n = number_at(line, at, most);
-    let Numeral::Is(first, end) = n else {
-        return no_numbers();
-    };
-    Numbers {
-        first,
-        second: 0,
-        are: end == line.len(),
+fn read_words(words: &mut Split<'_, char>) -> Option<Inquiry> {
+    match words.next()? {
+        "row" => Some(Inquiry::Row(number(words)?)),
+        "roll" => Some(Inquiry::Roll(number(words)?, number_up_to(words, MOST_PLACES)?)),
+        "owner" => Some(Inquiry::Owner(number(words)?)),
+        "waiting" => Some(Inquiry::Waiting),
+        "counts" => Some(Inquiry::Counts),
+        "lend" => Some(Inquiry::Lend(number_up_to(words, KEPT_WORDS)?)),
+        "word" => Some(Inquiry::Word(number_up_to(words, KEPT_WORDS - 1)?, number(words)?)),
+        "count" => Some(Inquiry::Count(
+            number(words).filter(|place| *place <= REFUSAL)?,
+            number(words)?,
+        )),
+        _ => None,
     }
 }
 
-fn two(line: &[u8], at: usize, most: u64, most_second: u64) -> Numbers {
-    let n = number_at(line, at, most);
-    let Numeral::Is(first, end) = n else {
-        return no_numbers();
-    };
-    let rest = one(line, end, most_second);
-    Numbers {
-        first,
-        second: rest.first,
-        are: rest.are,
+// One blank stands between two words, and nothing behind the last. A line that is longer than a frame can be was not held whole, so it is
+// not looked into.
+pub fn read_inquiry(line: &[u8]) -> Option<Inquiry> {
+    if line.len() > FRAME_BYTES {
+        return None;
     }
-}
-
-// A number below 2^32, as `one` and `two` give it at that limit.
-fn word_of(n: u64) -> u32 {
-    (n % 4294967296) as u32
-}
-
-fn row(line: &[u8]) -> Inquiry {
-    let n = one(line, 3, 4294967295);
-    if n.are {
-        return Inquiry::Row(word_of(n.first));
+    let mut words = str::from_utf8(line).ok()?.split(' ');
+    let inquiry = read_words(&mut words)?;
+    match words.next() {
+        Some(_) => None,
+        None => Some(inquiry),
     }
-    Inquiry::Unreadable
-}
-
-fn owner(line: &[u8]) -> Inquiry {
-    let n = one(line, 5, 4294967295);
-    if n.are {
-        return Inquiry::Owner(word_of(n.first));
-    }
-    Inquiry::Unreadable
-}
-
-fn lend(line: &[u8]) -> Inquiry {
-    let n = one(line, 4, KEPT_WORDS as u64);
-    if n.are {
-        return Inquiry::Lend(n.first as usize);
-    }
-    Inquiry::Unreadable
-}
-
-fn roll(line: &[u8]) -> Inquiry {
-    let n = two(line, 4, 4294967295, MOST_PLACES as u64);
-    if n.are {
-        return Inquiry::Roll(word_of(n.first), n.second as usize);
-    }
-    Inquiry::Unreadable
-}
-
-fn word(line: &[u8]) -> Inquiry {
-    let n = two(line, 4, (KEPT_WORDS - 1) as u64, 4294967295);
-    if n.are {
-        return Inquiry::Word(n.first as usize, word_of(n.second));
-    }
-    Inquiry::Unreadable
-}
-
-fn count(line: &[u8]) -> Inquiry {
-    let n = two(line, 5, LAST_COUNT, 18446744073709551615);
-    if n.are {
-        return Inquiry::Count(n.first as usize, n.second);
-    }
-    Inquiry::Unreadable
-}
-
-// A word that changes what is kept.
-fn change(line: &[u8]) -> Inquiry {
-    if begins(line, b"lend") {
-        return lend(line);
-    }
-    if begins(line, b"word") {
-        return word(line);
-    }
-    if begins(line, b"count") {
-        return count(line);
-    }
-    Inquiry::Unreadable
-}
-
-// A line that is longer than a frame can be was not held whole, so it is not looked into.
-pub fn read_inquiry(line: &[u8]) -> Inquiry {
-    if 514 < line.len() {
-        return Inquiry::Unreadable;
-    }
-    if is_word(line, b"waiting") {
-        return Inquiry::Waiting;
-    }
-    if is_word(line, b"counts") {
-        return Inquiry::Counts;
-    }
-    if begins(line, b"row") {
-        return row(line);
-    }
-    if begins(line, b"roll") {
-        return roll(line);
-    }
-    if begins(line, b"owner") {
-        return owner(line);
-    }
-    change(line)
 }

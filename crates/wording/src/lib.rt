@@ -1,11 +1,16 @@
-// What the ring says, in words: answers, refusals, rows, rolls, messages and counts as text (docs/INSPECT.md). Every function puts its text
-// behind the first `at` bytes of a block, and answers how many there are then. The text is tested beside the model's, and not proved.
+// What the ring says, in words: answers, refusals, rows, rolls, messages and counts as text (docs/INSPECT.md). Each has a type of its own whose
+// Display writes it, and a `Text` takes it in. The text is tested beside the model's, and not proved.
 #![tactic(auto)]
 
+mod answers;
+mod messages;
 mod names;
-mod show;
+mod refusals;
+mod rows;
 mod text;
 
-pub use names::refused;
-pub use show::{UNWRITTEN, counts, message, outcome, owner, roll, row, written};
-pub use text::{field, put, say};
+pub use answers::{Answered, Counted, Given, Numbered};
+pub use messages::{Sent, Waiting};
+pub use refusals::Refused;
+pub use rows::{HubRow, Places, UNWRITTEN};
+pub use text::Text;

@@ -1,49 +1,56 @@
-// Text in a block. What finds no room is dropped; whoever lends the block gives it room for the longest answer.
-ghost use Rattle.std.specs.Prelude.{◌<◌};
+// Text in a block of fixed length, which nothing has to be allocated for.
+ghost use Rattle.std.specs.Prelude.{◌≡◌, ◌≤◌, List, [], ◌++◌, ℕ, take};
 
-pub fn put(out: &mut [u8], at: usize, b: u8) -> usize {
-    if at < out.len() {
-        out[at] = b;
-        return at + 1;
-    }
-    at
+use std::fmt;
+use std::marker::Model;
+
+// The first ROOM bytes of all that was written. What finds no room is dropped: whoever makes a text gives it room for the longest answer.
+#[derive(Drop)]
+pub struct Text<const ROOM: usize> {
+    block: [u8; ROOM],
+    count: usize,
 }
 
-pub fn say(out: &mut [u8], at: usize, text: &[u8]) -> usize {
-    let mut end = at;
-    let mut i = 0;
-    while i < text.len() {
-        end = put(out, end, text[i]);
-        i += 1;
-    }
-    end
+impl<const ROOM: usize> Model for Text<ROOM> {
+    ghost Value = { List ℕ };
+
+    ghost view = { λ t. take t.count t.block };
+
+    ghost invariant = { λ t. t.count ≤ ROOM };
 }
 
-// A decimal digit of n, of the power of ten given, unless it is a zero in front of the number. The last digit is never that.
-fn digit(out: &mut [u8], at: usize, n: u64, power: u64) -> usize
-    requires { 0 < power }
-{
-    if power <= n {
-        return put(out, at, 48 + (n / power % 10) as u8);
+impl<const ROOM: usize> Text<ROOM> {
+    pub fn new() -> Self
+        ensures { result ≡ [] }
+    {
+        Text {
+            block: [0; ROOM],
+            count: 0,
+        }
     }
-    if power == 1 {
-        return put(out, at, 48);
+
+    pub fn clear(&mut self)
+        ensures { self.new ≡ [] }
+    {
+        self.count = 0;
     }
-    at
+
+    pub fn bytes(&self) -> &[u8]
+        ensures { result.now ≡ self.now }
+    {
+        &self.block[..self.count]
+    }
 }
 
-pub fn number(out: &mut [u8], at: usize, n: u64) -> usize {
-    let mut end = at;
-    let mut power = 10000000000000000000u64;
-    while 0 < power {
-        end = digit(out, end, n, power);
-        power /= 10;
-    }
-    end
-}
+impl<const ROOM: usize> fmt::Write for Text<ROOM> {
+    ghost write_str_gives = { λ s bytes t. t ≡ take ROOM (s ++ bytes) };
 
-// A word, and a number behind it.
-pub fn field(out: &mut [u8], at: usize, text: &[u8], n: u64) -> usize {
-    let end = say(out, at, text);
-    number(out, end, n)
+    fn write_str(&mut self, text: &str) -> fmt::Result {
+        let block = &mut self.block[..];
+        let fits = (ROOM - self.count).min(text.len());
+        let end = self.count + fits;
+        block[self.count..end].copy_from_slice(&text.as_bytes()[..fits]);
+        self.count = end;
+        Ok(())
+    }
 }
