@@ -126,7 +126,7 @@ pub extern "C" fn ring_sheet_read(
 ) -> u32
     ensures { sheet_read text.now identifiers.old names.old counts.old ≡ record { code = result; identifiers = identifiers.new; names = names.new; counts = counts.new } }
 {
-    sheet_bytes::read(text, identifiers, names, counts)
+    code(sheet_bytes::read(text, identifiers, names, counts))
 }
 
 // The office sheet of names and identifiers, into the lent text.
@@ -139,5 +139,5 @@ pub extern "C" fn ring_sheet_write(
 ) -> u32
     ensures { sheet_write names.now identifiers.now text.old counts.old ≡ record { code = result; text = text.new; counts = counts.new } }
 {
-    sheet_bytes::write(names, identifiers, text, counts)
+    code(sheet_bytes::write(names, identifiers, text, counts))
 }

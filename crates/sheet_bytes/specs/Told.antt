@@ -6,15 +6,11 @@ use Rattle.std.proofs.Common.{◌∙◌, le-leb}
 use Rattle.std.proofs.lemmas.Bool.{lt-leb}
 use Rattle.lists.specs.Basics.{require}
 use Rattle.lists.specs.Choice.{on_yes, on_no}
-use Rattle.protocol.specs.Names.{OUTPUT_SHORT}
+use Rattle.protocol.specs.declared.refusal.Refusal.TheVariants.{OutputShort}
 use Rattle.protocol.specs.Refusals.{number_of}
+use Rattle.protocol.specs.Answers.{refusal}
 use Rattle.protocol.specs.Bytes.{over}
 use Rattle.sheets.specs.Calls.{Outcome, SheetRead, SheetWritten, read_bytes_call, write_bytes_call}
-
--- The number returned: the refusal, 0 for none.
-unfoldable pub code_of : Outcome → ℕ
-code_of (Err k) = number_of k
-code_of (Ok c) = 0
 
 -- A count has eight bytes, lowest first: two words.
 unfoldable pub count_words : ℕ → ℕ → List ℕ
@@ -33,11 +29,11 @@ pub record ReadTold : Type 0 where
   pub counts : List ℕ
 
 unfoldable pub told_read : List ℕ → SheetRead → ReadTold
-told_read counts r = record { code = code_of r.outcome; identifiers = r.identifiers; names = r.names; counts = counts_after counts r.outcome }
+told_read counts r = record { code = refusal r.outcome; identifiers = r.identifiers; names = r.names; counts = counts_after counts r.outcome }
 
 unfoldable pub sheet_read : List ℕ → List ℕ → List ℕ → List ℕ → ReadTold
 sheet_read text ids names counts =
-    require (nat_le 16 (length counts)) (record { code = OUTPUT_SHORT; identifiers = ids; names = names; counts = counts }) (told_read counts (read_bytes_call text ids names))
+    require (nat_le 16 (length counts)) (record { code = number_of OutputShort; identifiers = ids; names = names; counts = counts }) (told_read counts (read_bytes_call text ids names))
 
 -- What the writing call leaves.
 pub record WriteTold : Type 0 where
@@ -46,14 +42,14 @@ pub record WriteTold : Type 0 where
   pub counts : List ℕ
 
 unfoldable pub told_write : List ℕ → SheetWritten → WriteTold
-told_write counts r = record { code = code_of r.outcome; text = r.text; counts = counts_after counts r.outcome }
+told_write counts r = record { code = refusal r.outcome; text = r.text; counts = counts_after counts r.outcome }
 
 unfoldable pub sheet_write : List ℕ → List ℕ → List ℕ → List ℕ → WriteTold
 sheet_write names ids text counts =
-    require (nat_le 16 (length counts)) (record { code = OUTPUT_SHORT; text = text; counts = counts }) (told_write counts (write_bytes_call names ids text))
+    require (nat_le 16 (length counts)) (record { code = number_of OutputShort; text = text; counts = counts }) (told_write counts (write_bytes_call names ids text))
 
 module _ (text ids names counts : List ℕ) where
-  pub read_17 : length counts < 16 → sheet_read text ids names counts ≡ record { code = OUTPUT_SHORT; identifiers = ids; names = names; counts = counts }
+  pub read_17 : length counts < 16 → sheet_read text ids names counts ≡ record { code = number_of OutputShort; identifiers = ids; names = names; counts = counts }
   unfolding sheet_read
   read_17 h = on_no (nat_le 16 (length counts)) _ _ (lt-leb 16 (length counts) h)
 
@@ -61,7 +57,7 @@ module _ (text ids names counts : List ℕ) where
   unfolding sheet_read
   read_told r h e = on_yes (nat_le 16 (length counts)) _ _ (le-leb 16 (length counts) h) ∙ ap (told_read counts) e
 
-  pub write_17 : length counts < 16 → sheet_write names ids text counts ≡ record { code = OUTPUT_SHORT; text = text; counts = counts }
+  pub write_17 : length counts < 16 → sheet_write names ids text counts ≡ record { code = number_of OutputShort; text = text; counts = counts }
   unfolding sheet_write
   write_17 h = on_no (nat_le 16 (length counts)) _ _ (lt-leb 16 (length counts) h)
 

@@ -4,10 +4,11 @@
 mod results;
 
 ghost use Rattle.std.specs.Prelude.{◌≡◌};
+ghost use Rattle.protocol.specs.Answers.{refusal};
 ghost use Rattle.sheet_bytes.specs.Told.{sheet_read, sheet_write};
 
 use crate::results::finish_sheet;
-use protocol::refusals;
+use protocol::Refusal;
 use sheet_reading::read_sheet_bytes;
 use sheet_writing::write_sheet_bytes;
 
@@ -15,22 +16,22 @@ use sheet_writing::write_sheet_bytes;
 const COUNTS_BYTES: usize = 16;
 
 // The hubs of an office sheet, into the lent identifiers and names.
-pub fn read(text: &[u8], identifiers: &mut [u8], names: &mut [u8], counts: &mut [u8]) -> u32
-    ensures { sheet_read text.now identifiers.old names.old counts.old ≡ record { code = result; identifiers = identifiers.new; names = names.new; counts = counts.new } }
+pub fn read(text: &[u8], identifiers: &mut [u8], names: &mut [u8], counts: &mut [u8]) -> Result<(), Refusal>
+    ensures { sheet_read text.now identifiers.old names.old counts.old ≡ record { code = refusal result; identifiers = identifiers.new; names = names.new; counts = counts.new } }
 {
     if counts.len() < COUNTS_BYTES {
-        return refusals::OUTPUT_SHORT;
+        return Err(Refusal::OutputShort);
     }
     let r = read_sheet_bytes(text, identifiers, names);
     finish_sheet(counts, r)
 }
 
 // The office sheet of names and identifiers, into the lent text.
-pub fn write(names: &[u8], identifiers: &[u8], text: &mut [u8], counts: &mut [u8]) -> u32
-    ensures { sheet_write names.now identifiers.now text.old counts.old ≡ record { code = result; text = text.new; counts = counts.new } }
+pub fn write(names: &[u8], identifiers: &[u8], text: &mut [u8], counts: &mut [u8]) -> Result<(), Refusal>
+    ensures { sheet_write names.now identifiers.now text.old counts.old ≡ record { code = refusal result; text = text.new; counts = counts.new } }
 {
     if counts.len() < COUNTS_BYTES {
-        return refusals::OUTPUT_SHORT;
+        return Err(Refusal::OutputShort);
     }
     let r = write_sheet_bytes(names, identifiers, text);
     finish_sheet(counts, r)

@@ -1,11 +1,13 @@
 -- `read`: 17, or what the call tells. Assumes nothing.
+use Rattle.protocol.specs.Answers.{refusal}
 use native.Mathlib.Omega.{arith}
 use Rattle.sheet_bytes.specs.Told.{told_read, read_17, read_told}
 use Rattle.sheet_bytes.proofs.read.Goals as goal
 
 pub returns-then-counts-lt-COUNTS_BYTES : goal.returns-then-counts-lt-COUNTS_BYTES
+unfolding refusal
 returns-then-counts-lt-COUNTS_BYTES c = read_17 c.args.text.now c.args.identifiers.now c.args.names.now c.args.counts.now c.if-counts-lt-COUNTS_BYTES.true
 
 pub returns : goal.returns
 unfolding told_read
-returns c = rw (c.finish_sheet.ensures.0, c.finish_sheet.ensures.1) (read_told c.args.text.now c.args.identifiers.now c.args.names.now c.args.counts.now _ (omega arith) c.read_sheet_bytes-r.ensures)
+returns c = rw (c.finish_sheet.ensures.code, c.finish_sheet.ensures.counts) (read_told c.args.text.now c.args.identifiers.now c.args.names.now c.args.counts.now _ (omega arith) c.read_sheet_bytes-r.ensures)
