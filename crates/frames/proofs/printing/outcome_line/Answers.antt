@@ -4,7 +4,7 @@ use Rattle.frames.proofs.printing.outcome_line.Goals as goal
 
 pub returns-in-Err : goal.returns-in-Err
 unfolding outcome_text
-returns-in-Err c = simp c.in-Err.is c.refusal_line.ensures
+returns-in-Err c = simp (c.in-Err.is, ← c.from.ensures) c.refusal_line.ensures
 
 pub returns-in-Ok : goal.returns-in-Ok
 unfolding outcome_text
