@@ -23,6 +23,11 @@ pred_of w h = get_or w (row_start h + 4) 0 % 64
 abbrev pub gap_back : List ℕ → List ℕ → ℕ → ℕ
 gap_back w names h = gap (get_or names (pred_of w h) 0) (get_or names h 0)
 
+-- What a table of reaches is right about: each member of a ring of n hubs.
+abbrev pub Reaches : List ℕ → List ℕ → ℕ → List ℕ → Type 0
+Reaches names marks n reaches =
+    (ids : List ℕ) → Names ids → Copied names ids → length ids ≡ n → MarksForm n marks → (h : ℕ) → Marked marks h → get_or reaches h 0 ≡ reach names marks h
+
 -- 1 where the pred of a member is no member.
 abbrev pub strange : List ℕ → List ℕ → ℕ → ℕ
 strange w marks h = when nat_eq (get_or marks h 0) 1 then (when nat_eq (get_or marks (pred_of w h) 0) 1 then 0 else 1) else 0

@@ -12,7 +12,7 @@ ghost use Rattle.card_checks.specs.Homes.{Copied};
 use crate::cards::Cards;
 use crate::machines::machines_differ;
 use crate::marks::marks_ok;
-use crate::owners::all_home;
+use crate::members::Members;
 use crate::preds::member_reaches;
 use protocol::form::{BOOK_WORDS, CARD_WORDS, CARDS_AT, MARKS_AT, MOST_CARDS};
 use wellformed::all_zero;
@@ -22,9 +22,13 @@ fn homes_ok(w: &[u32], cards: &Cards, n: u32, names: &[u32; 64]) -> bool
     requires { (n ≤ most_nodes) × (record_size ≤ length w.now) }
     ensures { (ids : List ℕ) → Names ids → Copied names.now ids → length ids ≡ n → MarksForm n (marks_in cards.now.words.now) → result ≡ every (λ c. nat_eq c.hub (home ids (marked (marks_in cards.now.words.now)) c.machine)) (table cards.now.count (λ j. card_from cards.now.words.now (card_start j))) }
 {
-    let marks = &cards.words[MARKS_AT..CARDS_AT];
-    let reaches = member_reaches(w, names, marks, n as usize);
-    all_home(cards, names, marks, &reaches)
+    let members = Members {
+        names,
+        marks: &cards.words[MARKS_AT..CARDS_AT],
+        count: n as usize,
+    };
+    let reaches = member_reaches(w, &members);
+    members.all_home(&reaches, cards)
 }
 
 pub fn book_ok(w: &[u32], names: &[u32; 64], k: &[u32]) -> bool

@@ -7,6 +7,7 @@ mod content;
 mod digits;
 mod machines;
 mod marks;
+mod members;
 mod owners;
 mod preds;
 

@@ -1,15 +1,12 @@
-// Who owns a machine among the members: tables of the identifiers and of how far each node's numbers reach back.
-ghost use Rattle.std.specs.Prelude.{◌≡◌, ℕ, ◌+◌, ◌≤◌, ◌<◌, nat_eq, length, get_or};
-ghost use Rattle.lists.specs.Basics.{when◌then◌else◌, every, table};
+// Who owns a machine among the members, by how far each node's numbers reach back.
+ghost use Rattle.std.specs.Prelude.{◌≡◌, ℕ, ◌≤◌, ◌<◌, nat_eq, length, get_or};
+ghost use Rattle.lists.specs.Basics.{when◌then◌else◌};
 ghost use Rattle.protocol.specs.Record.{most_nodes, read};
 ghost use Rattle.protocol.specs.WellFormed.{identifiers};
-ghost use Rattle.protocol.specs.Cards.{card_start, card_from};
 ghost use Rattle.layout.specs.Form.{Valid};
 ghost use Rattle.cardlayout.specs.Reach.{top, least, gap as gap_spec, reach as reach_spec};
-ghost use Rattle.card_checks.specs.Buckets.{machine_of};
-ghost use Rattle.card_checks.specs.Homes.{Copied, at_home, nearest as nearest_spec};
+ghost use Rattle.card_checks.specs.Homes.{Copied, nearest as nearest_spec};
 
-use crate::cards::Cards;
 use clockwise::distance;
 use protocol::form::{ROW_WORDS, ROWS_AT};
 
@@ -55,41 +52,6 @@ pub fn reach(names: &[u32], marks: &[u32], h: usize) -> u32
 {
     let id = names[h];
     least(names, marks, |name| gap(name, id))
-}
-
-// The reach of the first n nodes.
-pub(crate) fn reaches_of(names: &[u32; 64], marks: &[u32], n: usize) -> [u32; 64]
-    requires { (n ≤ most_nodes) × (length marks.now ≤ most_nodes) }
-    ensures { (h : ℕ) → h < n → get_or result h 0 ≡ reach_spec names.now marks.now h }
-{
-    let mut reaches = [0u32; 64];
-    for h in 0..n {
-        reaches[h] = reach(names, marks, h);
-    }
-    reaches
-}
-
-// Whether card j is with its owner.
-fn at_home(cards: &Cards, j: usize, names: &[u32; 64], marks: &[u32], reaches: &[u32; 64]) -> bool
-    requires { (j < cards.now.count) × (most_nodes ≤ length marks.now) }
-    ensures { result ≡ at_home names.now marks.now reaches.now (machine_of cards.now.words.now j) (get_or cards.now.words.now (card_start j + 3) 0) }
-{
-    let hub = cards.hub(j);
-    let slot = (hub % 64) as usize;
-    let near = distance(cards.machine(j), names[slot]) <= reaches[slot];
-    (hub < 64) & (marks[slot] == 1) & near
-}
-
-// Whether each card is with its owner.
-pub(crate) fn all_home(cards: &Cards, names: &[u32; 64], marks: &[u32], reaches: &[u32; 64]) -> bool
-    requires { most_nodes ≤ length marks.now }
-    ensures { result ≡ every (λ c. at_home names.now marks.now reaches.now c.machine c.hub) (table cards.now.count (λ j. card_from cards.now.words.now (card_start j))) }
-{
-    let mut ok = true;
-    for j in 0..cards.count {
-        ok &= at_home(cards, j, names, marks, reaches);
-    }
-    ok
 }
 
 // The nearest marked node.

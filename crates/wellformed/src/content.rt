@@ -1,116 +1,80 @@
-ghost use Rattle.std.specs.Prelude.{◌≡◌, ℕ, ◌≤◌, ◌<◌, nat_eq, length, get_or, fold, zip};
-ghost use Rattle.std.specs.Int.Bits.{bit_or};
+// A record's rows, messages and unused words.
+ghost use Rattle.std.specs.Prelude.{◌≡◌, ℕ, ◌≤◌, ◌<◌, length, get_or};
 ghost use Rattle.lists.specs.Basics.{every, table};
-ghost use Rattle.protocol.specs.Record.{most_nodes, most_messages, row_start, message_start, record_size, count_in, messages_in, row_from, message_from, read};
-ghost use Rattle.protocol.specs.WellFormed.{row_ok, message_ok, header_ok, unused_ok, well_formed};
+ghost use Rattle.protocol.specs.Record.{most_nodes, most_messages, row_start, message_start, record_size, count_in, messages_in, asked_in, row_from, message_from, read};
+ghost use Rattle.protocol.specs.WellFormed.{row_ok, message_ok, unused_ok};
 ghost use Rattle.wellformed.specs.Laws.{nodes_ok};
 
 use crate::differ::all_differ;
 use crate::message::bad_message;
 use crate::row::row_ok;
-use protocol::form::{
-    FORM, MESSAGE_WORDS, MESSAGES_AT, MOST_MESSAGES, MOST_NODES, RECORD_WORDS, ROW_WORDS, ROWS_AT,
-};
+use crate::zeros::all_zero;
+use protocol::form::{MESSAGE_WORDS, MESSAGES_AT, RECORD_WORDS, ROW_WORDS, ROWS_AT};
 
-fn header_ok(w: &[u32]) -> bool
-    requires { record_size ≤ length w.now }
-    ensures { result ≡ header_ok w.now }
-{
-    (w[0] == FORM) & (1 <= w[1]) & (w[1] <= MOST_NODES) & (w[2] <= MOST_MESSAGES)
+// A record whose header is as it must be: its words, and how many nodes and messages it has.
+#[derive(Clone, Copy)]
+pub(crate) struct Headed<'a> {
+    pub(crate) words: &'a [u32],
+    pub(crate) nodes: u32,
+    pub(crate) messages: u32,
+    ghost long: { record_size ≤ length words.now },
+    ghost nodes_are: { nodes ≡ count_in words.now },
+    ghost nodes_few: { nodes ≤ most_nodes },
+    ghost messages_are: { messages ≡ messages_in words.now },
+    ghost messages_few: { messages ≤ most_messages },
 }
 
-// The words of a part, merged.
-fn merged_words(part: &[u32]) -> u32
-    ensures { result ≡ fold (λ all x. bit_or all x) 0 part.now }
-{
-    part.iter().fold(0, |all, x| all | *x)
-}
-
-// The words of two parts of one length, merged side by side.
-fn merged_halves(first: &[u32], second: &[u32]) -> u32
-    ensures { result ≡ fold (λ all p. bit_or (bit_or all p.0) p.1) 0 (zip first.now second.now) }
-{
-    first
-        .iter()
-        .zip(second)
-        .fold(0, |all, (x, y)| all | *x | *y)
-}
-
-// Whether every word of the part is 0. A long part is read faster as two halves; what is left over is one word at most.
-pub fn all_zero(part: &[u32]) -> bool
-    ensures { result ≡ every (λ x. nat_eq x 0) part.now }
-{
-    let half = part.len() / 2;
-    let even = half + half;
-    merged_halves(&part[..half], &part[half..even]) | merged_words(&part[even..]) == 0
-}
-
-// Whether each of the n rows is as it must be. Their identifiers are put side by side, so that comparing them is vectorised too: the loop
-// then reads every word of a row, which the compiler does in blocks without a rest.
-fn rows_ok(w: &[u32], n: u32, ids: &mut [u32; 64]) -> bool
-    requires { (n ≤ most_nodes) × (record_size ≤ length w.now) }
-    ensures { (result ≡ every (row_ok n) (table n (λ i. row_from w.now (row_start i)))) × ((i : ℕ) → i < n → get_or ids.new i 0 ≡ get_or w.now (row_start i) 0) }
-{
-    let mut ok = true;
-    for i in 0..n as usize {
-        let h = record::row_at(w, ROWS_AT + ROW_WORDS * i);
-        ids[i] = h.identifier;
-        ok &= row_ok(n, h);
+impl Headed<'_> {
+    // Whether each row is as it must be. The identifiers are put side by side, so that comparing them is vectorised too: the loop then reads every
+    // word of a row, which the compiler does in blocks without a rest.
+    fn rows_ok(&self, ids: &mut [u32; 64]) -> bool
+        ensures { (result ≡ every (row_ok self.now.nodes) (table self.now.nodes (λ i. row_from self.now.words.now (row_start i)))) × ((i : ℕ) → i < self.now.nodes → get_or ids.new i 0 ≡ get_or self.now.words.now (row_start i) 0) }
+    {
+        let w = self.words;
+        let n = self.nodes;
+        let mut ok = true;
+        for i in 0..n as usize {
+            let h = record::row_at(w, ROWS_AT + ROW_WORDS * i);
+            ids[i] = h.identifier;
+            ok &= row_ok(n, h);
+        }
+        ok
     }
-    ok
-}
 
-// Whether each of the m messages is as it must be.
-fn messages_ok(w: &[u32], n: u32, asked: u32, m: u32) -> bool
-    requires { (m ≤ most_messages) × (record_size ≤ length w.now) }
-    ensures { result ≡ every (message_ok n asked) (table m (λ j. message_from w.now (message_start j))) }
-{
-    let mut bad: u32 = 0;
-    for j in 0..m as usize {
-        bad |= bad_message(
-            n,
-            asked,
-            record::message_at(w, MESSAGES_AT + MESSAGE_WORDS * j),
-        );
+    // Whether rows and identifiers are as they must be.
+    pub(crate) fn nodes_ok(&self) -> bool
+        ensures { result ≡ nodes_ok (read self.now.words.now) }
+    {
+        let mut ids = [0; 64];
+        let rows = self.rows_ok(&mut ids);
+        all_differ(&ids[..self.nodes as usize]) & rows
     }
-    bad == 0
-}
 
-// Whether the unused words are 0.
-fn unused_ok(w: &[u32], n: u32, m: u32) -> bool
-    requires { (n ≡ count_in w.now) × (m ≡ messages_in w.now) × (n ≤ most_nodes) × (m ≤ most_messages) × (record_size ≤ length w.now) }
-    ensures { result ≡ unused_ok w.now }
-{
-    let rows = ROWS_AT + ROW_WORDS * (n as usize);
-    let messages = MESSAGES_AT + MESSAGE_WORDS * (m as usize);
-    all_zero(&w[rows..MESSAGES_AT]) & all_zero(&w[messages..RECORD_WORDS])
-}
+    // Whether each message is as it must be.
+    pub(crate) fn messages_ok(&self) -> bool
+        ensures { result ≡ every (message_ok self.now.nodes (asked_in self.now.words.now)) (table self.now.messages (λ j. message_from self.now.words.now (message_start j))) }
+    {
+        let w = self.words;
+        let n = self.nodes;
+        let asked = w[3];
+        let mut bad: u32 = 0;
+        for j in 0..self.messages as usize {
+            bad |= bad_message(
+                n,
+                asked,
+                record::message_at(w, MESSAGES_AT + MESSAGE_WORDS * j),
+            );
+        }
+        bad == 0
+    }
 
-// Whether rows and identifiers are as they must be.
-fn nodes_ok(w: &[u32], n: u32) -> bool
-    requires { (n ≡ count_in w.now) × (n ≤ most_nodes) × (record_size ≤ length w.now) }
-    ensures { result ≡ nodes_ok (read w.now) }
-{
-    let mut ids = [0; 64];
-    let rows = rows_ok(w, n, &mut ids);
-    all_differ(&ids[..n as usize]) & rows
-}
-
-// The tests in turn: the one that a caller's mistake meets first costs no more than itself.
-pub fn well_formed(w: &[u32]) -> bool
-    requires { record_size ≤ length w.now }
-    ensures { result ≡ well_formed w.now }
-{
-    if !header_ok(w) {
-        return false;
+    // Whether the unused words are 0.
+    pub(crate) fn unused_ok(&self) -> bool
+        ensures { result ≡ unused_ok self.now.words.now }
+    {
+        let w = self.words;
+        let rows = ROWS_AT + ROW_WORDS * (self.nodes as usize);
+        let messages = MESSAGES_AT + MESSAGE_WORDS * (self.messages as usize);
+        all_zero(&w[rows..MESSAGES_AT]) & all_zero(&w[messages..RECORD_WORDS])
     }
-    let n = w[1];
-    let m = w[2];
-    if !nodes_ok(w, n) {
-        return false;
-    }
-    if !messages_ok(w, n, w[3], m) {
-        return false;
-    }
-    unused_ok(w, n, m)
 }

@@ -24,8 +24,8 @@ pub loop-h-preserved : goal.loop-h-preserved
 loop-h-preserved c = let l = c.loop-h in
     let a = c.args in
     let w = a.w.now in
-    let names = a.names.now in
-    let marks = a.marks.now in
+    let names = a.members.now.names.now in
+    let marks = a.members.now.marks.now in
     let far = c.gap-far in (
       search rules,
       filled l.reaches l.h far.result 0 (gap_back w names) (omega arith) far.ensures l.invariant.1,
@@ -36,11 +36,11 @@ loop-h-preserved c = let l = c.loop-h in
 
 pub returns-then-strangers-circle : goal.returns-then-strangers-circle
 returns-then-strangers-circle c = let l = c.loop-h in
-    let n = c.args.n in
-    let marks = c.args.marks.now in
+    let n = c.args.members.now.count in
+    let marks = c.args.members.now.marks.now in
     let e : l.h ≡ n = omega arith in
     λ ids N C size M. let both = true_T _ c.if-strangers-circle.true in
-    preds_law ids c.args.names.now marks c.args.w.now l.reaches n N C size M c.requires.2 c.requires.0
+    preds_law ids c.args.members.now.names.now marks c.args.w.now l.reaches n N C size M c.args.members.now.each c.args.members.now.few
     (λ h k. l.invariant.1 h (omega arith))
     (ap (λ z. merged z (strange c.args.w.now marks)) (sym e) ∙ sym l.invariant.2 ∙ eqb→eq l.strangers 0 (and_left (nat_eq l.strangers 0) _ both))
-    (ap (total (arc_back c.args.w.now c.args.names.now marks)) (sym e) ∙ sym l.invariant.3 ∙ eqb→eq l.circle 4294967296 (and_right (nat_eq l.strangers 0) _ both))
+    (ap (total (arc_back c.args.w.now c.args.members.now.names.now marks)) (sym e) ∙ sym l.invariant.3 ∙ eqb→eq l.circle 4294967296 (and_right (nat_eq l.strangers 0) _ both))

@@ -3,7 +3,7 @@ use Prim.Native.Nat.{◌+◌, ◌/◌, ◌≤◌}
 use native.Mathlib.Omega.{arith}
 use lib.ListN.{length}
 use Rattle.wellformed.specs.Laws.{zeros_law}
-use Rattle.wellformed.proofs.content.all_zero.Goals as goal
+use Rattle.wellformed.proofs.zeros.all_zero.Goals as goal
 
 pub returns : goal.returns
 returns c =
