@@ -7,7 +7,6 @@ ghost use Rattle.sheet_reading.specs.Put.{Readable, Copies, place_for, test_for,
 
 use crate::judging::row_end;
 use crate::numbers::number_at;
-use crate::runs::run_end;
 use crate::{Put, RowPut};
 use sheets::{COMMA, QUOTE};
 
@@ -16,9 +15,13 @@ fn copy_until(text: &[u8], from: usize, names: &mut [u8], at: usize, stop: u8) -
     requires { Copies (place_for stop) stop (test_for stop) × Readable text.now (place_for stop) from at (length names.old) }
     ensures { Copied text.now from result stop names.old at names.new }
 {
-    let end = run_end(text, from, |b| b != stop);
-    names[at..at + (end - from)].copy_from_slice(&text[from..end]);
-    end
+    for i in from..text.len() {
+        if text[i] == stop {
+            return i;
+        }
+        names[at + (i - from)] = text[i];
+    }
+    text.len()
 }
 
 // The rest of a quoted name, from a quote on. A quote behind it is a byte of the name; any other byte there is the comma.
