@@ -28,7 +28,7 @@ loop-i-preserved c =
     let a = c.args in
     let g = c.loop-i-test.true in (
       every_between (test_for a.stop) a.from l.i a.text.now l.auto.i g l.invariant.0
-      (copy_passes a.text.now a.from a.at (length a.names.now) a.stop c.requires.0 c.requires.1 l.i l.auto.i l.invariant.0 c.if-text-i.false),
+          (copy_passes a.text.now a.from a.at (length a.names.now) a.stop c.requires.0 c.requires.1 l.i l.auto.i l.invariant.0 c.if-text-i.false),
       copy_more a.names.now l.names a.text.now a.at a.from l.i l.auto.i g (room_for c) l.invariant.1,
     )
 

@@ -25,7 +25,7 @@ returns-then-room-sheet g c =
     let n = d.held c.args.identifiers.now in
     let o = sheet_some c.judge.result NoSheet c.in_ok-sheet.sheet c.in_ok-sheet.ensures.value ∙ c.judge.ensures in
     elim c.then-room-sheet.either [
-      inl h ↦ ids_short d.form n c.args.names.now c.in_ok-sheet.sheet _ o (search rules) d.each c.room.result d.laws c.room.ensures.most h
+      | inl h ↦ ids_short d.form n c.args.names.now c.in_ok-sheet.sheet _ o (search rules) d.each c.room.result d.laws c.room.ensures.most h
       | inr h ↦ names_short d.form n c.args.names.now c.in_ok-sheet.sheet _ o (search rules) h.1
     ]
 
