@@ -21,7 +21,7 @@ use Rattle.sheets.specs.declared.Place.{Place}
 use Rattle.sheets.specs.declared.Place.TheVariants.{Start, Plain, Quoted, Closed, Number, Wrong}
 use Rattle.sheets.specs.declared.Effect.TheVariants.{Letter}
 use Rattle.sheets.specs.declared.Ending.TheVariants.{Within}
-use Rattle.sheets.specs.Reader.{next, effect, standing, nothing, lists, ending, ended_as}
+use Rattle.sheets.specs.Reader.{next, effect, standing, lists, ending, ended_as}
 use Rattle.sheets.proofs.Sound.{silent}
 use Rattle.sheet_reading.specs.Runs.{between, between_none, between_more, length_between}
 use Rattle.sheet_reading.specs.Nexts

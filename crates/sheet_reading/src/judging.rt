@@ -46,6 +46,7 @@ pub(crate) fn judge(text: &[u8]) -> Option<Sheet>
     let mut bytes = 0;
     let mut fits = true;
     let mut i = 0;
+    // No `for`: a step is a row of the text.
     while i < text.len() {
         let row = kinds.row_at(text, i)?;
         rows += 1;

@@ -16,6 +16,7 @@ impl Kinds {
     {
         let mut doubled = 0;
         let mut i = run_end(text, from, |b| self.is_quoted(b));
+        // No `for`: a step is two quotes and the bytes behind them.
         loop {
             match &text[i..] {
                 [QUOTE, QUOTE, ..] => {

@@ -2,7 +2,6 @@
 use Rattle.std.proofs.Common.{rules, ◌≡◌, ap, sym, ◌∙◌, inl, inr, Err}
 use native.Mathlib.Omega.{arith}
 use Rattle.protocol.specs.declared.refusal.Refusal.TheVariants.{NoSheet}
-use Rattle.sheets.specs.Calls.{unread}
 use Rattle.sheet_reading.specs.Filled.{sheet_some, sheet_none, read_none, too_large, ids_short, names_short, roomy, all_read}
 use Rattle.sheet_reading.proofs.filling.read.Goals as goal
 
