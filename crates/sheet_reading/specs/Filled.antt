@@ -1,9 +1,9 @@
 -- What the reading calls give, question by question, and the rows that fill the lent buffers. Assumes nothing.
 use Rattle.std.proofs.Math.Path.{◌≡◌, refl, ap, ap₂, sym}
-use Rattle.std.proofs.Common.{◌∙◌, ltb-true, le-leb}
+use Rattle.std.proofs.Common.{◌∙◌, le-leb}
 use Rattle.std.specs.Option.{ok_or}
 use Rattle.protocol.specs.declared.refusal.Refusal.{Refusal}
-use Rattle.std.specs.Prelude.{Option, Some, None, Ok, Err, Bool, true, false, ◌&&◌, ◌||◌, List, [], ◌∷◌, ◌++◌, ℕ, ◌+◌, ◌*◌, ◌≤◌, ◌<◌, min, T, nat_lt, length}
+use Rattle.std.specs.Prelude.{Option, Some, None, Ok, Err, Bool, true, false, ◌&&◌, List, [], ◌∷◌, ◌++◌, ℕ, ◌+◌, ◌*◌, ◌≤◌, ◌<◌, min, length}
 use native.Mathlib.Omega.{arith}
 use Rattle.std.proofs.lemmas.Bool.{lt-leb}
 use Rattle.std.proofs.Common.{nat_le}
@@ -11,7 +11,7 @@ use Rattle.std.proofs.Math.ListN.{length-append}
 use Rattle.std.proofs.Math.Nat.{mul-le-mul_left}
 use Rattle.lists.specs.Basics.{require, every}
 use Rattle.lists.specs.Choice.{on_yes, on_no}
-use Rattle.lists.specs.Tests.{and_false, true_T}
+use Rattle.lists.specs.Tests.{and_false}
 use Rattle.lists.specs.Splice.{splice}
 use Rattle.protocol.specs.declared.refusal.Refusal.TheVariants.{NoSheet, IdentifierTooLarge, RoomShort}
 use Rattle.sheet_reading.specs.declared.Sheet.{Sheet}

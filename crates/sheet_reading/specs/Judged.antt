@@ -18,7 +18,7 @@ use Rattle.sheet_reading.specs.Kinds.{plain_byte, quoted_byte}
 use Rattle.sheets.specs.declared.Place.{Place}
 use Rattle.sheets.specs.declared.Place.TheVariants.{Start, Plain, Opened, Quoted, Closed, Number, Digits, NumberOpened, NumberQuoted, NumberClosed, Return}
 use Rattle.sheets.specs.Reader.{nothing, ending, ended_as}
-use Rattle.sheet_reading.specs.Runs.{between, RunTo, length_between, between_none, between_both, run_first, worth_append, worth_grows, worth_ten}
+use Rattle.sheet_reading.specs.Runs.{between, RunTo, length_between, between_none, between_both, run_first, worth_append, worth_ten}
 use Rattle.sheet_reading.specs.Nexts
 use Rattle.sheet_reading.specs.Onward.{onward, onward_end, onward_wrong, onward_opened, onward_closed, onward_quoted, onward_number, onward_number_opened, onward_number_closed, onward_return, onward_start, onward_as, plain_over, quoted_over, digits_on, number_quoted_on}
 

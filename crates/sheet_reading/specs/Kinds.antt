@@ -1,7 +1,7 @@
 -- The kinds of a byte: which bytes end a run of a name. Assumes nothing.
 use Rattle.std.specs.Prelude.{◌≡◌, Bool, not, ◌&&◌, List, ℕ, ◌<◌, nat_eq, get_or, T}
 use Rattle.std.proofs.Math.Path.{refl, sym}
-use Rattle.std.proofs.Common.{ap, ◌∙◌, arith}
+use Rattle.std.proofs.Common.{ap, ◌∙◌}
 use Rattle.std.proofs.Math.Bool.{true, false}
 use Rattle.lists.specs.Basics.{when◌then◌else◌, table}
 use Rattle.lists.specs.Tests.{true_T}

@@ -1,5 +1,5 @@
 -- What the functions that write a name find, in a text that is known to be a sheet, and why there is room. Assumes nothing.
-use Rattle.std.specs.Prelude.{◌≡◌, Option, Some, None, IsSome, Bool, not, ℕ, zero, suc, ◌+◌, ◌-◌, ◌≤◌, ◌<◌, get_or}
+use Rattle.std.specs.Prelude.{◌≡◌, Option, Some, None, IsSome, Bool, ℕ, ◌+◌, ◌-◌, ◌≤◌, ◌<◌, get_or}
 use Rattle.std.proofs.Math.Path.{refl, ap, sym}
 use Rattle.std.proofs.Common.{◌∙◌}
 use Rattle.std.proofs.Math.Bool.{true, false}
@@ -21,12 +21,11 @@ use Rattle.sheets.specs.declared.Place.{Place}
 use Rattle.sheets.specs.declared.Place.TheVariants.{Start, Plain, Quoted, Closed, Number, Wrong}
 use Rattle.sheets.specs.declared.Effect.TheVariants.{Letter}
 use Rattle.sheets.specs.declared.Ending.TheVariants.{Within}
-use Rattle.sheets.specs.Reader.{next, effect, standing, nothing, lists, ending, ended_as}
+use Rattle.sheets.specs.Reader.{next, effect, standing, lists, ending, ended_as}
 use Rattle.sheets.proofs.Sound.{silent}
-use Rattle.sheets.specs.Bytes.{not_yes}
-use Rattle.sheet_reading.specs.Runs.{between, RunTo, length_between, every_empty, every_between, run_at}
+use Rattle.sheet_reading.specs.Runs.{between, between_none, between_more, length_between}
 use Rattle.sheet_reading.specs.Nexts
-use Rattle.sheet_reading.specs.Onward.{onward, onward_end, onward_wrong, onward_closed, onward_quoted, onward_number, onward_as, names_over, plain_stays, quoted_stays, plain_over, quoted_over, onward_grows}
+use Rattle.sheet_reading.specs.Onward.{onward, onward_end, onward_wrong, onward_closed, onward_letter, onward_quoted, onward_number, onward_as, names_over, plain_stays, quoted_stays, plain_over, quoted_over, onward_grows}
 use Rattle.sheets.specs.Laying.{splice_none, splice_one, splice_twice, length_splice}
 use Rattle.sheet_reading.specs.Judged.{capped, NumberIs, EndIs, opened_name}
 
@@ -67,10 +66,6 @@ place_for stop = when nat_eq stop comma then Plain else Quoted
 unfoldable pub test_for : ℕ → ℕ → Bool
 test_for stop b = when nat_eq stop comma then plain_byte b else quoted_byte b
 
--- A byte that does not end the copy.
-unfoldable pub before : ℕ → ℕ → Bool
-before stop b = not (nat_eq b stop)
-
 -- Bytes copied up to the one that ends them.
 pub record Copied (t : List ℕ) (i j stop : ℕ) (names₀ : List ℕ) (at : ℕ) (names : List ℕ) : Type 0 where
   pub from : i ≤ j
@@ -100,55 +95,40 @@ module _ (t : List ℕ) (i at room stop : ℕ) (k : Copies (place_for stop) stop
       go false q = absurd (silent r.all_names r.all_numbers (
           sym (onward_end t p n r.numbers r.value j (ltb-false _ _ q) ∙ ap (λ x. ended_as x (standing p n r.numbers r.value)) k.within) ∙ going))
 
-  copy_passes : (get_or t j 0 ≡ stop → ⊥) → test_for stop (get_or t j 0) ≡ true
-  copy_passes q = go (test_for stop (get_or t j 0)) refl
-    where
-      go : (b : Bool) → test_for stop (get_or t j 0) ≡ b → b ≡ true
-      go true z = refl
-      go false z = absurd (silent r.all_names r.all_numbers (sym (onward_wrong t p n r.numbers r.value j copy_goes (k.wrong (get_or t j 0) z q)) ∙ going))
+  module _ (q : get_or t j 0 ≡ stop → ⊥) where
+    pub copy_passes : test_for stop (get_or t j 0) ≡ true
+    copy_passes = go (test_for stop (get_or t j 0)) refl
+      where
+        go : (b : Bool) → test_for stop (get_or t j 0) ≡ b → b ≡ true
+        go true z = refl
+        go false z = absurd (silent r.all_names r.all_numbers (sym (onward_wrong t p n r.numbers r.value j copy_goes (k.wrong (get_or t j 0) z q)) ∙ going))
 
-  pub copy_room : at + (j - i) ≤ room
-  copy_room =
-      let g = (onward_grows t p n r.numbers r.value j r.all_names r.all_numbers going).0 in
-      let b = length-append r.names (between i j t) in
-      let l = copy_goes in
-      let c = length_between i j t h (omega arith) in
-      let d = r.here in
-      let f = r.fits in
-      omega arith
+    pub copy_room : at + (j - i) < room
+    copy_room =
+        let g = (onward_grows t p (n ++ (get_or t j 0 ∷ [])) r.numbers r.value (j + 1) r.all_names r.all_numbers
+        (sym (onward_letter t p n r.numbers r.value j copy_goes p k.letter (k.stays (get_or t j 0) copy_passes)) ∙ going)).0 in
+        let a = length-append n (get_or t j 0 ∷ []) in
+        let b = length-append r.names (between i j t) in
+        let l = copy_goes in
+        let c = length_between i j t h (omega arith) in
+        let d = r.here in
+        let f = r.fits in
+        omega arith
 
-not_no : (a : Bool) → not a ≡ false → a ≡ true
-not_no true e = refl
-not_no false e = sym e
+-- one byte more is copied
+pub copy_none : (w t : List ℕ) (at i : ℕ) → w ≡ splice w at (between i i t)
+copy_none w t at i = splice_none w at ∙ ap (splice w at) (sym (between_none i t))
 
--- the bytes before the one that ends the copy all belong to the name
-module _ (t : List ℕ) (i at room stop : ℕ) (k : Copies (place_for stop) stop (test_for stop)) (r : Readable t (place_for stop) i at room) (e : ℕ) (u : RunTo (before stop) t i e) where
-  not_stop : (b : ℕ) → before stop b ≡ true → b ≡ stop → ⊥
-  unfolding before
-  not_stop b q = eqb-false _ _ (not_yes _ q)
-
-  passed_to : (m j : ℕ) → j ≡ i + m → j ≤ e → every (test_for stop) (between i j t) ≡ true
-  passed_to zero j q h = ap (λ x. every (test_for stop) (between i x t)) (let z : j ≡ i = omega arith in z) ∙ every_empty (test_for stop) i t
-  passed_to (suc m) j q h =
-      let x = i + m in
-      let z : j ≡ x + 1 = omega arith in
-      let b = passed_to m x refl (omega arith) in
-      let w = u.within in
-      ap (λ y. every (test_for stop) (between i y t)) z
-      ∙ every_between (test_for stop) i x t (omega arith) (omega arith) b (copy_passes t i at room stop k r x (omega arith) b (not_stop _ (run_at (before stop) t i e u x (omega arith) (omega arith))))
-
-  pub copy_all : every (test_for stop) (between i e t) ≡ true
-  copy_all = let f = u.from in passed_to (e - i) e (omega arith) (omega arith)
-
-  pub copied : (names₀ names : List ℕ) → names ≡ splice names₀ at (between i e t) → Copied t i e stop names₀ at names
-  unfolding before
-  copied names₀ names w = record {
-    from = u.from;
-    within = copy_goes t i at room stop k r e u.from copy_all;
-    passed = copy_all;
-    ended = eqb-true _ _ (not_no _ (u.stopped (copy_goes t i at room stop k r e u.from copy_all)));
-    written = w;
-  }
+pub copy_more : (w u t : List ℕ) (at i j : ℕ) → i ≤ j → j < length t → at + (j - i) < length w → u ≡ splice w at (between i j t)
+    → set u (at + (j - i)) (get_or t j 0) ≡ splice w at (between i (j + 1) t)
+copy_more w u t at i j h l r e =
+    let a = length_between i j t h (omega arith) in
+    let s : length (splice w at (between i j t)) ≡ length w = length_splice w (between i j t) at (omega arith) in
+    ap (λ x. set x (at + (j - i)) (get_or t j 0)) e
+    ∙ splice_one (splice w at (between i j t)) (at + (j - i)) (get_or t j 0) (omega arith)
+    ∙ ap (λ n. splice (splice w at (between i j t)) (at + n) (get_or t j 0 ∷ [])) (sym a)
+    ∙ splice_twice w (between i j t) (get_or t j 0 ∷ []) at (omega arith)
+    ∙ ap (splice w at) (sym (between_more i j t h l))
 
 -- a part of a buffer written over
 pub mid_splice : (w ys : List ℕ) (at k : ℕ) → k ≡ length ys → put_mid at k w ys ≡ splice w at ys

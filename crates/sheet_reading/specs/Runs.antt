@@ -6,7 +6,7 @@ use Rattle.std.proofs.Common.{nat_lt, ltb-true, add-zero, ap, sym, ◌∙◌, ar
 use Rattle.lists.specs.Basics.{every}
 use Rattle.lists.specs.Merge.{every_append}
 use Rattle.sheets.specs.Grammar.{worth}
-use Rattle.sheets.specs.Bytes.{every_head, and_second}
+use Rattle.sheets.specs.Bytes.{every_head}
 
 -- The bytes of a text from a place up to another.
 abbrev pub between : ℕ → ℕ → List ℕ → List ℕ
@@ -99,14 +99,3 @@ run_first f t i j r h =
     let e : between i (i + 1) t ≡ get_or t i 0 ∷ [] = between_more i i t (omega arith) (omega arith) ∙ ap (λ l. l ++ (get_or t i 0 ∷ [])) (between_none i t) in
     let s : between i j t ≡ get_or t i 0 ∷ between (i + 1) j t = between_both i (i + 1) j t (omega arith) (omega arith) ∙ ap (λ l. l ++ between (i + 1) j t) e in
     every_head f (get_or t i 0) (between (i + 1) j t) (sym (ap (every f) s) ∙ r.passed)
-
--- every byte of a run passes
-pub run_at : (f : ℕ → Bool) (t : List ℕ) (i e : ℕ) → RunTo f t i e → (j : ℕ) → i ≤ j → j < e → f (get_or t j 0) ≡ true
-run_at f t i e r j h l =
-    let b = ap (every f) (between_both i j e t h (omega arith)) ∙ every_append f (between i j t) (between j e t) in
-    run_first f t j e (record {
-      from = omega arith;
-      within = r.within;
-      passed = and_second (every f (between i j t)) (every f (between j e t)) (sym b ∙ r.passed);
-      stopped = r.stopped;
-    }) l

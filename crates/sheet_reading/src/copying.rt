@@ -1,5 +1,6 @@
 // A row of a sheet that was judged: its name into the lent names, its number handed back. That the text is a sheet and the names are long
-// enough is known, so no byte of a name is looked at but for the one that ends it.
+// enough is known, so no byte of a name is looked at but for the one that ends it. Text, names and a place in each are passed on one by one: a
+// struct of them would be taken apart again in each function, since each goes on from other places.
 ghost use Rattle.std.specs.Prelude.{◌≡◌, ◌<◌, length, get_or};
 ghost use Rattle.sheets.specs.Grammar.{quote};
 ghost use Rattle.sheets.specs.declared.Place.TheVariants.{Start, Quoted};
@@ -7,18 +8,22 @@ ghost use Rattle.sheet_reading.specs.Put.{Readable, Copies, place_for, test_for,
 
 use crate::judging::row_end;
 use crate::numbers::number_at;
-use crate::runs::run_end;
 use crate::{Put, RowPut};
 use sheets::{COMMA, QUOTE};
 
-// The bytes of a name up to the one that ends them, to a place of the names on.
+// The bytes of a name up to the one that ends them, to a place of the names on. Names are short: with `run_end` and `copy_from_slice` in the place
+// of this loop, a plain sheet took a tenth longer and one with many quotes a seventh, and the plain one missed its target in docs/BENCH.md.
 fn copy_until(text: &[u8], from: usize, names: &mut [u8], at: usize, stop: u8) -> usize
     requires { Copies (place_for stop) stop (test_for stop) × Readable text.now (place_for stop) from at (length names.old) }
     ensures { Copied text.now from result stop names.old at names.new }
 {
-    let end = run_end(text, from, |b| b != stop);
-    names[at..at + (end - from)].copy_from_slice(&text[from..end]);
-    end
+    for i in from..text.len() {
+        if text[i] == stop {
+            return i;
+        }
+        names[at + (i - from)] = text[i];
+    }
+    text.len()
 }
 
 // The rest of a quoted name, from a quote on. A quote behind it is a byte of the name; any other byte there is the comma.
@@ -28,6 +33,7 @@ fn copy_quotes(text: &[u8], from: usize, names: &mut [u8], at: usize) -> Put
 {
     let mut i = from;
     let mut k = at;
+    // No `for`: a step is two quotes and the bytes behind them.
     while text[i + 1] == QUOTE {
         names[k] = QUOTE;
         let next = i + 2;

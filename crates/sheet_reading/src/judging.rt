@@ -5,7 +5,6 @@ ghost use Rattle.sheet_reading.specs.Judged.{EndIs, RowIs};
 ghost use Rattle.sheet_reading.specs.Filled.{judged};
 
 use crate::bytes::Kinds;
-use crate::names::name_at;
 use crate::numbers::number_at;
 use crate::{Row, Sheet};
 use sheets::{CR, LF};
@@ -22,18 +21,20 @@ pub(crate) fn row_end(text: &[u8], from: usize) -> Option<usize>
     }
 }
 
-fn row_at(kinds: &Kinds, text: &[u8], from: usize) -> Option<Row>
-    requires { from < length text.now }
-    ensures { RowIs text.now from result }
-{
-    let name = name_at(kinds, text, from)?;
-    let number = number_at(text, name.end)?;
-    let end = row_end(text, number.end)?;
-    Some(Row {
-        end,
-        bytes: name.bytes,
-        value: number.value,
-    })
+impl Kinds {
+    fn row_at(&self, text: &[u8], from: usize) -> Option<Row>
+        requires { from < length text.now }
+        ensures { RowIs text.now from result }
+    {
+        let name = self.name_at(text, from)?;
+        let number = number_at(text, name.end)?;
+        let end = row_end(text, number.end)?;
+        Some(Row {
+            end,
+            bytes: name.bytes,
+            value: number.value,
+        })
+    }
 }
 
 // All of the text is looked at, so that whoever calls can ask for 19 before 20.
@@ -45,8 +46,9 @@ pub(crate) fn judge(text: &[u8]) -> Option<Sheet>
     let mut bytes = 0;
     let mut fits = true;
     let mut i = 0;
+    // No `for`: a step is a row of the text.
     while i < text.len() {
-        let row = row_at(&kinds, text, i)?;
+        let row = kinds.row_at(text, i)?;
         rows += 1;
         bytes += row.bytes;
         fits = fits & (row.value <= 4294967295);

@@ -1,4 +1,6 @@
 // Runs: the bytes of a name, or digits, one after the other. They are most of a sheet.
+// Here, and in names.rt, numbers.rt and judging.rt, a text and a place in it are passed as two. A struct of both would be made at each call, its
+// bound proved there as that clause is now, since each function goes on from a place that another found.
 ghost use Rattle.std.specs.Prelude.{◌≡◌, ℕ, Bool, ◌≤◌, ◌<◌, length};
 ghost use Rattle.sheet_reading.specs.Runs.{RunTo};
 

@@ -1,42 +1,40 @@
--- `copy_until`: the bytes before the one that ends them, and no others. Assumes nothing.
-use Rattle.std.proofs.Common.{rules, ◌∙◌, ap, ◌+◌, ◌-◌, ◌≤◌}
+-- `copy_until`: the bytes up to i are copied, and the one that ends them is ahead. Assumes nothing.
+use Rattle.std.proofs.Common.{◌+◌, ◌-◌, ◌<◌}
 use native.Mathlib.Omega.{arith}
 use lib.ListN.{length}
-use borrow.Rule.Slice.PartMut.{put_mid}
-use Rattle.sheet_reading.specs.Runs.{between, length_between, every_empty, RunTo}
-use Rattle.sheet_reading.specs.Put.{before, place_for, test_for, copy_goes, copy_room, copy_all, copied, mid_splice}
+use Rattle.sheet_reading.specs.Runs.{every_empty, every_between}
+use Rattle.sheet_reading.specs.Put.{test_for, copy_goes, copy_passes, copy_room, copy_none, copy_more}
 use Rattle.sheet_reading.proofs.copying.copy_until.Goals as goal
 
-pub run_end-end-requires-clause-within : goal.run_end-end-requires-clause-within
-run_end-end-requires-clause-within c =
-    let a = c.args in
-    let l = copy_goes a.text.now a.from a.at (length a.names.now) a.stop c.requires.0 c.requires.1 a.from (omega arith) (every_empty (test_for a.stop) a.from a.text.now) in
-    omega arith
+pub loop-i-init : goal.loop-i-init
+loop-i-init c = (every_empty (test_for c.args.stop) c.args.from c.args.text.now, copy_none c.args.names.now c.args.text.now c.args.at c.args.from)
 
--- the bytes before the one that ends them, and the room that they take
-run_of : (c : goal.After-run_end-end) → RunTo (before c.args.stop) c.args.text.now c.args.from c.run_end-end.result
-unfolding before
-run_of c = c.run_end-end.ensures.runs (before c.args.stop) (λ b r h p. search rules)
-
-room_for : (c : goal.After-run_end-end) → c.args.at + (c.run_end-end.result - c.args.from) ≤ length c.args.names.now
+-- the byte has room
+room_for : (c : goal.After-shared_slice_known-in-loop-i-1) → c.args.at + (c.loop-i.i - c.args.from) < length c.args.names.now
 room_for c =
     let a = c.args in
-    let n = length a.names.now in
-    let e = c.run_end-end.result in
-    copy_room a.text.now a.from a.at n a.stop c.requires.0 c.requires.1 e c.run_end-end.ensures.ahead (copy_all a.text.now a.from a.at n a.stop c.requires.0 c.requires.1 e (run_of c))
+    let l = c.loop-i in
+    copy_room a.text.now a.from a.at (length a.names.now) a.stop c.requires.0 c.requires.1 l.i l.auto.i l.invariant.0 c.if-text-i.false
 
-pub overflow_add-at : goal.overflow_add-at
-overflow_add-at c = let r = room_for c in omega arith
+pub overflow_add-names : goal.overflow_add-names
+overflow_add-names c = let r = room_for c in omega arith
 
-pub slice_bounds-copy_from_slice-end : goal.slice_bounds-copy_from_slice-end
-slice_bounds-copy_from_slice-end c = room_for c
+pub bounds-names-at : goal.bounds-names-at
+bounds-names-at c = let r = room_for c in let k = c.loop-i.auto.names in omega arith
+
+pub loop-i-preserved : goal.loop-i-preserved
+loop-i-preserved c =
+    let l = c.loop-i in
+    let a = c.args in
+    let g = c.loop-i-test.true in (
+      every_between (test_for a.stop) a.from l.i a.text.now l.auto.i g l.invariant.0
+          (copy_passes a.text.now a.from a.at (length a.names.now) a.stop c.requires.0 c.requires.1 l.i l.auto.i l.invariant.0 c.if-text-i.false),
+      copy_more a.names.now l.names a.text.now a.at a.from l.i l.auto.i g (room_for c) l.invariant.1,
+    )
 
 pub returns : goal.returns
-unfolding before
 returns c =
     let a = c.args in
-    let e = c.run_end-end.result in
-    let i = c.run_end-end.ensures.inside in
-    let l = length_between a.from e a.text.now c.run_end-end.ensures.ahead i in
-    copied a.text.now a.from a.at (length a.names.now) a.stop c.requires.0 c.requires.1 e (c.run_end-end.ensures.runs (before a.stop) (λ b r h p. search rules)) a.names.now _
-    (ap (λ x. put_mid a.at (a.at + (e - a.from) - a.at) a.names.now x) c.copy_from_slice.ensures.after ∙ mid_splice a.names.now (between a.from e a.text.now) a.at (a.at + (e - a.from) - a.at) (omega arith))
+    let l = c.loop-i in
+    let g = copy_goes a.text.now a.from a.at (length a.names.now) a.stop c.requires.0 c.requires.1 l.i l.auto.i l.invariant.0 in
+    absurd (omega arith)

@@ -2,7 +2,6 @@
 use Rattle.std.proofs.Common.{rules, ◌≡◌, ap, sym, ◌∙◌, inl, inr, Err}
 use native.Mathlib.Omega.{arith}
 use Rattle.protocol.specs.declared.refusal.Refusal.TheVariants.{NoSheet}
-use Rattle.sheets.specs.Calls.{unread}
 use Rattle.sheet_reading.specs.Filled.{sheet_some, sheet_none, read_none, too_large, ids_short, names_short, roomy, all_read}
 use Rattle.sheet_reading.proofs.filling.read.Goals as goal
 
@@ -25,7 +24,7 @@ returns-then-room-sheet g c =
     let n = d.held c.args.identifiers.now in
     let o = sheet_some c.judge.result NoSheet c.in_ok-sheet.sheet c.in_ok-sheet.ensures.value ∙ c.judge.ensures in
     elim c.then-room-sheet.either [
-      inl h ↦ ids_short d.form n c.args.names.now c.in_ok-sheet.sheet _ o (search rules) d.each c.room.result d.laws c.room.ensures.most h
+      | inl h ↦ ids_short d.form n c.args.names.now c.in_ok-sheet.sheet _ o (search rules) d.each c.room.result d.laws c.room.ensures.most h
       | inr h ↦ names_short d.form n c.args.names.now c.in_ok-sheet.sheet _ o (search rules) h.1
     ]
 

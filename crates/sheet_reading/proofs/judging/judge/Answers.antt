@@ -2,7 +2,7 @@
 use mathlib.Core.Path.{◌∙◌}
 use native.Mathlib.Omega.{arith}
 use Rattle.sheet_reading.specs.Judged.{RowIs}
-use Rattle.sheet_reading.specs.Filled.{Counted, counted_none, counted_row, counted_wrong, counted_all_lem}
+use Rattle.sheet_reading.specs.Filled.{counted_none, counted_row, counted_wrong, counted_all_lem}
 use Rattle.sheet_reading.proofs.judging.judge.Goals as goal
 
 pub loop-i-init : goal.loop-i-init

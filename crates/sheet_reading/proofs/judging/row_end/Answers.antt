@@ -2,7 +2,7 @@
 use Rattle.std.proofs.Common.{rules, ◌≡◌, sym, ◌∙◌, get_or, length}
 use native.Mathlib.Omega.{arith}
 use Rattle.sheet_reading.specs.Runs.{between, rest_first, rest_second, length_rest}
-use Rattle.sheet_reading.specs.Judged.{end_text, end_stops, end_cut, end_bare, end_row, end_short}
+use Rattle.sheet_reading.specs.Judged.{end_text, end_stops, end_bare, end_row, end_short}
 use Rattle.sheet_reading.proofs.judging.row_end.Goals as goal
 
 pub returns-in-empty : goal.returns-in-empty

@@ -1,10 +1,8 @@
 -- `digits`: all bytes passed are digits, and make the number. Assumes nothing.
 use mathlib.Core.Path.{◌≡◌, sym, ◌∙◌, subst}
-use mathlib.Core.Bool.{true}
 use Prim.Native.Nat.{◌+◌, ◌*◌}
 use native.Mathlib.Omega.{arith}
 use lib.ListN.{length}
-use Rattle.lists.specs.Basics.{every}
 use Rattle.sheets.specs.Grammar.{is_digit, worth}
 use Rattle.sheet_reading.specs.Runs.{between, every_empty, every_between, worth_none, worth_more}
 use Rattle.sheet_reading.specs.Judged.{DigitsSaid, digits_small, digits_large}

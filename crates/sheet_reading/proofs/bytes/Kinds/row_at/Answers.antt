@@ -1,7 +1,7 @@
 -- `row_at`: name, number and end, one behind the other. Assumes nothing.
 use mathlib.Core.Path.{sym, subst}
-use Rattle.sheet_reading.specs.Judged.{NameIs, NumberIs, EndIs, RowIs, row_no_name, row_no_number, row_no_end, row_read}
-use Rattle.sheet_reading.proofs.judging.row_at.Goals as goal
+use Rattle.sheet_reading.specs.Judged.{NameIs, NumberIs, RowIs, row_no_name, row_no_number, row_no_end, row_read}
+use Rattle.sheet_reading.proofs.bytes.Kinds.row_at.Goals as goal
 
 pub returns-in_err-name : goal.returns-in_err-name
 returns-in_err-name c = subst (RowIs c.args.text.now c.args.from) (sym c.from_residual.ensures) (row_no_name c.args.text.now c.args.from c.in_err-name.ensures)

@@ -4,7 +4,7 @@ use native.Mathlib.Omega.{arith}
 use Rattle.sheet_reading.specs.Kinds.{quoted_byte}
 use Rattle.sheet_reading.specs.Runs.{between, rest_first, rest_second, length_rest}
 use Rattle.sheet_reading.specs.Judged.{quoting_first, quoting_more, quoting_read, quoting_stops, quoting_shut, quoting_ends}
-use Rattle.sheet_reading.proofs.names.quoted_name.Goals as goal
+use Rattle.sheet_reading.proofs.bytes.Kinds.quoted_name.Goals as goal
 
 pub loop-i-init : goal.loop-i-init
 loop-i-init c = quoting_first c.args.text.now c.args.from c.run_end-i.result (c.run_end-i.ensures.runs quoted_byte (λ b r h p. search rules))

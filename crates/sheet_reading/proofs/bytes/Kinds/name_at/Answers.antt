@@ -7,7 +7,7 @@ use Rattle.std.proofs.Common.{rules}
 use Rattle.sheet_reading.specs.Kinds.{plain_byte}
 use Rattle.sheet_reading.specs.Runs.{looked_up}
 use Rattle.sheet_reading.specs.Judged.{NameIs, name_read, name_ends, name_stops, name_opened}
-use Rattle.sheet_reading.proofs.names.name_at.Goals as goal
+use Rattle.sheet_reading.proofs.bytes.Kinds.name_at.Goals as goal
 
 pub returns-then-text-from-eq-QUOTE : goal.returns-then-text-from-eq-QUOTE
 returns-then-text-from-eq-QUOTE c = name_opened c.args.text.now c.args.from c.requires c.if-text-from-eq-QUOTE.true c.quoted_name.result c.quoted_name.ensures
