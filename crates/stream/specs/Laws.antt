@@ -5,10 +5,9 @@ use Rattle.std.proofs.Math.Seq.{paste, paste-suc, take-paste, drop-length}
 use Rattle.std.proofs.lemmas.List.Edits.{drop-paste}
 use borrow.Author.Tests.{ne_eqb}
 use Rattle.lists.specs.Basics.{when◌then◌else◌}
-use Rattle.protocol.specs.declared.Line.{Line}
 use Rattle.protocol.specs.Frames.{line_call}
 use Rattle.console.specs.Lines.{Gathering, kept, gathered}
-use Rattle.protocol.specs.Ringrun.{text_of, Standing, line_ended, byte_fed, fed, ended}
+use Rattle.protocol.specs.Ringrun.{Standing, line_ended, byte_fed, fed, ended}
 use Rattle.stream.specs.Pieces.{cut, cut_fed}
 
 -- one byte more is copied
