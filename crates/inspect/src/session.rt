@@ -134,18 +134,19 @@ impl Session {
 
     // Every line is taken, and so is every record. A frame means what it means to `ringrun`: one that founds names node 0.
     pub fn answer(&mut self, line: &[u8], out: &mut AnswerText) -> fmt::Result {
-        let frame = decode(line);
-        if let Frame::Founding(count) = frame {
-            let founded = outcome(fresh_ring(self.words_mut(), line, count));
-            return write!(out, "{}", Given(founded.map(Answered)));
-        }
-        if let Frame::Command { operation, x, y } = frame {
-            let stepped = outcome(self.step(operation, x, y));
-            return write!(out, "{}", Given(stepped.map(Answered)));
-        }
-        match read_inquiry(line) {
-            Some(inquiry) => self.inquire(inquiry, out),
-            None => write!(out, "does not read"),
+        match decode(line) {
+            Some(Frame::Founding(count)) => {
+                let founded = outcome(fresh_ring(self.words_mut(), line, count));
+                write!(out, "{}", Given(founded.map(Answered)))
+            }
+            Some(Frame::Command { operation, x, y }) => {
+                let stepped = outcome(self.step(operation, x, y));
+                write!(out, "{}", Given(stepped.map(Answered)))
+            }
+            None => match read_inquiry(line) {
+                Some(inquiry) => self.inquire(inquiry, out),
+                None => write!(out, "does not read"),
+            },
         }
     }
 }
