@@ -4,7 +4,7 @@ use crate::inquiries::{Inquiry, read_inquiry};
 use crate::waiting::waiting;
 use frames::{decode, fresh_ring};
 use protocol::form::RECORD_WORDS;
-use protocol::{Answer, Frame, Outcome, Ownership, Roll, Tally, answer_kinds};
+use protocol::{Answer, Frame, Refusal, Tally, answer_kinds};
 use std::fmt;
 use std::fmt::Write;
 use wording::{Answered, Counted, Given, HubRow, Numbered, Places, UNWRITTEN};
@@ -15,27 +15,6 @@ pub struct Session {
     record: [u32; KEPT_WORDS],
     tally: Tally,
     lent: usize,
-}
-
-fn outcome(o: Outcome) -> Result<Answer, u32> {
-    match o {
-        Outcome::Refused(k) => Err(k),
-        Outcome::Answered(a) => Ok(a),
-    }
-}
-
-fn ownership(o: Ownership) -> Result<u32, u32> {
-    match o {
-        Ownership::Refused(k) => Err(k),
-        Ownership::HeldBy(hub) => Ok(hub),
-    }
-}
-
-fn roll(r: Roll) -> Result<u32, u32> {
-    match r {
-        Roll::Refused(k) => Err(k),
-        Roll::Length(n) => Ok(n),
-    }
 }
 
 // The count in a place, which has the number of the kind of answer that it counts, is overwritten.
@@ -81,7 +60,7 @@ impl Session {
         &mut self.record[..self.lent.min(KEPT_WORDS)]
     }
 
-    fn step(&mut self, operation: u32, x: u32, y: u32) -> Outcome {
+    fn step(&mut self, operation: u32, x: u32, y: u32) -> Result<Answer, Refusal> {
         let mut tally = self.tally;
         let stepped = tally::step(self.words_mut(), operation, x, y, &mut tally);
         self.tally = tally;
@@ -92,7 +71,7 @@ impl Session {
     fn tell_roll(&self, hub: u32, places: usize, out: &mut AnswerText) -> fmt::Result {
         let mut output = [UNWRITTEN; MOST_PLACES];
         let lent = &mut output[..places.min(MOST_PLACES)];
-        let length = roll(ring::roll_call(self.words(), hub, lent));
+        let length = ring::roll_call(self.words(), hub, lent);
         write!(
             out,
             "roll from {hub}, {}:{}",
@@ -109,9 +88,8 @@ impl Session {
             }
             Inquiry::Roll(hub, places) => self.tell_roll(hub, places, out),
             Inquiry::Owner(number) => {
-                let owner = ownership(ring::owner(self.words(), number));
-                let named = owner.map(|hub| Numbered("hub", hub));
-                write!(out, "owner of {number}: {}", Given(named))
+                let owner = ring::owner(self.words(), number).map(|hub| Numbered("hub", hub));
+                write!(out, "owner of {number}: {}", Given(owner))
             }
             Inquiry::Waiting => write!(out, "waiting: {}", Given(waiting(self.words()))),
             Inquiry::Counts => write!(out, "{}", Counted(self.tally)),
@@ -136,11 +114,11 @@ impl Session {
     pub fn answer(&mut self, line: &[u8], out: &mut AnswerText) -> fmt::Result {
         match decode(line) {
             Some(Frame::Founding(count)) => {
-                let founded = outcome(fresh_ring(self.words_mut(), line, count));
+                let founded = fresh_ring(self.words_mut(), line, count);
                 write!(out, "{}", Given(founded.map(Answered)))
             }
             Some(Frame::Command { operation, x, y }) => {
-                let stepped = outcome(self.step(operation, x, y));
+                let stepped = self.step(operation, x, y);
                 write!(out, "{}", Given(stepped.map(Answered)))
             }
             None => match read_inquiry(line) {

@@ -1,6 +1,6 @@
 // The waiting messages, which no public call hands out: they are read where the record is well formed.
+use protocol::Refusal;
 use protocol::form::{MESSAGE_WORDS, MESSAGES_AT, RECORD_WORDS};
-use protocol::refusals;
 use wellformed::well_formed;
 use wording::Waiting;
 
@@ -10,12 +10,12 @@ fn message_words(w: &[u32], m: u32) -> &[u32] {
     &w[MESSAGES_AT.min(end)..end]
 }
 
-pub fn waiting(w: &[u32]) -> Result<Waiting<'_>, u32> {
+pub fn waiting(w: &[u32]) -> Result<Waiting<'_>, Refusal> {
     if w.len() < RECORD_WORDS {
-        return Err(refusals::RECORD_SHORT);
+        return Err(Refusal::RecordShort);
     }
     if !well_formed(w) {
-        return Err(refusals::NOT_WELL_FORMED);
+        return Err(Refusal::NotWellFormed);
     }
     Ok(Waiting(message_words(w, w[2])))
 }

@@ -1,11 +1,11 @@
 // What a call gave (docs/INSPECT.md, 'Answers').
 use crate::refusals::Refused;
-use protocol::{Answer, Tally};
+use protocol::{Answer, Refusal, Tally};
 use std::fmt;
 
 // What was asked for, or why it was refused.
 #[derive(Drop)]
-pub struct Given<T>(pub Result<T, u32>);
+pub struct Given<T>(pub Result<T, Refusal>);
 
 impl<T: fmt::Display> fmt::Display for Given<T> {
     fn fmt<W: fmt::Write>(&self, f: &mut fmt::Formatter<W>) -> fmt::Result {

@@ -1,46 +1,45 @@
 // Why a call was refused, by its number and in words.
-use protocol::refusals;
+use protocol::Refusal;
 use std::fmt;
 
 #[derive(Clone, Copy)]
-pub struct Refused(pub u32);
+pub struct Refused(pub Refusal);
 
 impl Refused {
     fn reason(&self) -> &'static str {
         match self.0 {
-            refusals::RECORD_SHORT => "record short",
-            refusals::NOT_WELL_FORMED => "not well formed",
-            refusals::NO_OPERATION => "no operation",
-            refusals::NO_HUB => "no hub",
-            refusals::NOT_IN_RING => "not in ring",
-            refusals::NOT_OUTSIDE => "not outside",
-            refusals::LOCKED => "locked",
-            refusals::LAST_HUB => "last hub",
-            refusals::NO_MESSAGE => "no message",
-            refusals::NOT_EXPECTED => "not expected",
-            refusals::MESSAGES_FULL => "messages full",
-            refusals::TICKETS_USED_UP => "tickets used up",
-            refusals::IDENTIFIER_COUNT => "identifier count",
-            refusals::IDENTIFIER_TWICE => "identifier twice",
-            refusals::NO_HOLDER => "no holder",
-            refusals::NO_WAY_ROUND => "no way round",
-            refusals::OUTPUT_SHORT => "output short",
-            refusals::NO_FOUNDER => "no founder",
-            refusals::NO_SHEET => "no sheet",
-            refusals::IDENTIFIER_TOO_LARGE => "identifier too large",
-            refusals::ROOM_SHORT => "room short",
-            refusals::REVISION_LOWER => "revision lower",
-            refusals::PRICE_DIFFERS => "price differs",
-            refusals::CARDS_FULL => "cards full",
-            refusals::ROUTE_LONG => "route long",
-            refusals::PLACES_SHORT => "places short",
-            _ => "",
+            Refusal::RecordShort => "record short",
+            Refusal::NotWellFormed => "not well formed",
+            Refusal::NoOperation => "no operation",
+            Refusal::NoHub => "no hub",
+            Refusal::NotInRing => "not in ring",
+            Refusal::NotOutside => "not outside",
+            Refusal::Locked => "locked",
+            Refusal::LastHub => "last hub",
+            Refusal::NoMessage => "no message",
+            Refusal::NotExpected => "not expected",
+            Refusal::MessagesFull => "messages full",
+            Refusal::TicketsUsedUp => "tickets used up",
+            Refusal::IdentifierCount => "identifier count",
+            Refusal::IdentifierTwice => "identifier twice",
+            Refusal::NoHolder => "no holder",
+            Refusal::NoWayRound => "no way round",
+            Refusal::OutputShort => "output short",
+            Refusal::NoFounder => "no founder",
+            Refusal::NoSheet => "no sheet",
+            Refusal::IdentifierTooLarge => "identifier too large",
+            Refusal::RoomShort => "room short",
+            Refusal::RevisionLower => "revision lower",
+            Refusal::PriceDiffers => "price differs",
+            Refusal::CardsFull => "cards full",
+            Refusal::RouteLong => "route long",
+            Refusal::PlacesShort => "places short",
         }
     }
 }
 
 impl fmt::Display for Refused {
     fn fmt<W: fmt::Write>(&self, f: &mut fmt::Formatter<W>) -> fmt::Result {
-        write!(f, "refused {} ({})", self.0, self.reason())
+        write!(f, "refused {} ({})", u32::from(self.0), self.reason())
     }
 }
