@@ -51,3 +51,8 @@ pub put_at : (w ys : List ℕ) (a k v : ℕ) → a + k ≤ length w → ys ≡ p
 put_at w ys a k v h e =
     let n : length (take k (drop a w)) ≡ k = simp (length-take, length-drop) (omega arith) in
     ap (put_mid a k w) (e ∙ ap (λ i. print i v) n) ∙ put_part a k w (print k v) (length_print k v)
+
+pub put_at_length : (w ys : List ℕ) (a k : ℕ) → a + k ≤ length w → length ys ≡ length (take k (drop a w)) → length (put_mid a k w ys) ≡ length w
+put_at_length w ys a k h e =
+    let n : length (take k (drop a w)) ≡ k = simp (length-take, length-drop) (omega arith) in
+    simp (length-append, length-take, length-drop) (omega arith)

@@ -5,7 +5,7 @@ ghost use Rattle.hubsheet.specs.Line.{refusal_line, founding_line, rows_line, Pr
 
 use crate::hubs::{Hubs, counted, keep};
 use crate::places::ending;
-use frames::{put2, put8};
+use frames::put;
 use lists::both;
 use protocol::refusals;
 use sheets::{Ending, put_byte};
@@ -15,8 +15,8 @@ fn put_refusal(out: &mut [u8], number: u32) -> usize
     requires { 516 ≤ length out.old }
     ensures { (result ≡ length (refusal_line number)) × (out.new ≡ laid out.old (refusal_line number)) }
 {
-    put2(out, 0, 238);
-    put2(out, 2, number);
+    put(&mut out[0..2], 238);
+    put(&mut out[2..4], number);
     put_byte(out, 4, 10);
     5
 }
@@ -26,10 +26,11 @@ fn put_founding(out: &mut [u8], identifiers: &[u32]) -> usize
     requires { (length identifiers.now ≤ 64) × (516 ≤ length out.old) }
     ensures { (result ≡ length (founding_line identifiers.now)) × (out.new ≡ laid out.old (founding_line identifiers.now)) }
 {
-    put2(out, 0, 240);
+    put(&mut out[0..2], 240);
     let mut i = 0;
     while i < identifiers.len() {
-        put8(out, 2 + 8 * i, identifiers[i]);
+        let at = 2 + 8 * i;
+        put(&mut out[at..at + 8], identifiers[i]);
         i += 1;
     }
     let end = 2 + 8 * i;

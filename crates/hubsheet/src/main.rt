@@ -11,7 +11,7 @@ ghost use Rattle.hubsheet.specs.Held.{Begun, Taken};
 
 use crate::frame::put_line;
 use crate::hubs::{Hubs, feed};
-use console::{Arrival, receive, send};
+use console::{Arrival, Console};
 use sheets::Place;
 
 // Before the first byte.
@@ -34,11 +34,11 @@ struct Turn {
 }
 
 // One read.
-fn take_some(rt: &HostRuntime, h: Hubs, identifiers: &mut [u32], input: &mut [u8]) -> Turn
+fn take_some(console: Console, h: Hubs, identifiers: &mut [u32], input: &mut [u8]) -> Turn
     requires { (h.value ≤ 4294967296) × (length identifiers.old ≡ 64) }
     ensures { (result.hubs.value ≤ 4294967296) × Taken result.arrival h identifiers.old input.new result.hubs identifiers.new }
 {
-    let arrival = receive(rt, b"hubsheet", input);
+    let arrival = console.receive(input);
     match arrival {
         Arrival::Bytes(n) => {
             let hubs = feed(h, &input[..n], identifiers);
@@ -50,7 +50,7 @@ fn take_some(rt: &HostRuntime, h: Hubs, identifiers: &mut [u32], input: &mut [u8
 }
 
 // Whether the run goes on. At the end of the input the line is printed; where a read failed, which is told, nothing is.
-fn goes_on(rt: &HostRuntime, t: Turn, identifiers: &mut [u32], out: &mut [u8]) -> bool
+fn goes_on(console: Console, t: Turn, identifiers: &mut [u32], out: &mut [u8]) -> bool
     requires { (length identifiers.old ≡ 64) × (516 ≤ length out.old) }
 {
     let arrival = t.arrival;
@@ -59,26 +59,24 @@ fn goes_on(rt: &HostRuntime, t: Turn, identifiers: &mut [u32], out: &mut [u8]) -
         Arrival::Bytes(_) => true,
         Arrival::End => {
             let count = put_line(h, identifiers, out);
-            send(rt, b"hubsheet", &out[..count]);
+            console.send(&out[..count]);
             false
         }
         Arrival::Failed => false,
     }
 }
 
-// A proved loop has to end, and nothing says that the input does. So the loop counts its turns down, from a number that no run uses up.
-fn run(rt: &HostRuntime, identifiers: &mut [u32], input: &mut [u8], out: &mut [u8])
+// A proved loop has to end, and nothing says that the input does: no run uses up its turns.
+fn run(console: Console, identifiers: &mut [u32], input: &mut [u8], out: &mut [u8])
     requires { (length identifiers.old ≡ 64) × (516 ≤ length out.old) }
 {
-    let mut turns = 18446744073709551615u64;
     let mut h = begun();
-    while turns > 0 {
-        let t = take_some(rt, h, identifiers, input);
-        if !goes_on(rt, t, identifiers, out) {
+    for _ in 0..u64::MAX {
+        let t = take_some(console, h, identifiers, input);
+        if !goes_on(console, t, identifiers, out) {
             return;
         }
         h = t.hubs;
-        turns -= 1;
     }
 }
 
@@ -86,5 +84,9 @@ fn main(rt: HostRuntime) {
     let mut identifiers = [0u32; 64];
     let mut input = io::large_buffer();
     let mut out = [0u8; 516];
-    run(&rt, &mut identifiers, &mut input, &mut out);
+    let console = Console {
+        rt: &rt,
+        name: b"hubsheet",
+    };
+    run(console, &mut identifiers, &mut input, &mut out);
 }
