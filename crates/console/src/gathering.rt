@@ -2,10 +2,11 @@
 ghost use Rattle.std.specs.Prelude.{◌≡◌, true, false, ℕ, List, [], ◌++◌, ◌<◌, ◌≤◌, ◌==◌, length, take, position, MatchOption};
 ghost use Rattle.console.specs.Lines.{gathered};
 
+use std::fmt;
 use std::marker::Model;
 
-// What has come of a line that has not ended yet. Its first N bytes are kept and the rest is dropped, so that a line of any length costs no more
-// than these.
+// What has come of a line that has not ended yet, or of a text that is being written. Its first N bytes are kept and the rest is dropped, so that
+// a line of any length costs no more than these.
 #[derive(Drop)]
 pub struct Begun<const N: usize> {
     bytes: [u8; N],
@@ -72,5 +73,14 @@ impl<const N: usize> Begun<N> {
         };
         self.keep(&input[..end]);
         Some(&input[end + 1..])
+    }
+}
+
+impl<const N: usize> fmt::Write for Begun<N> {
+    ghost write_str_gives = { λ s bytes t. t ≡ take N (s ++ bytes) };
+
+    fn write_str(&mut self, text: &str) -> fmt::Result {
+        self.keep(text.as_bytes());
+        Ok(())
     }
 }

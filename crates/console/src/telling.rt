@@ -1,6 +1,6 @@
 // What failed, and what was lost by it, on standard error. Where standard error fails too, nobody can be told.
 use crate::Console;
-use crate::reasons::reason_of;
+use crate::reasons::{text_of, word};
 use std::io::{Error, Print};
 
 impl Console<'_> {
@@ -10,12 +10,12 @@ impl Console<'_> {
 
     // The call that failed, and the system's word for why.
     pub(crate) fn tell_failure(&self, what: &[u8], error: Error) {
-        let reason = reason_of(error);
+        let reason = text_of(error);
         self.put(self.name);
         self.put(b": ");
         self.put(what);
         self.put(b": ");
-        self.put(reason.word());
+        self.put(word(reason.as_slice()));
         self.put(b"\n");
     }
 

@@ -1,6 +1,6 @@
 // How much there is of everything.
+use console::Begun;
 use protocol::form::RECORD_WORDS;
-use wording::Text;
 
 // The record, and two words behind it.
 pub const KEPT_WORDS: usize = RECORD_WORDS + 2;
@@ -11,7 +11,7 @@ pub const MOST_PLACES: usize = 64;
 // The longest frame. A line has room for one byte more, so that what is longer still does not read.
 pub const FRAME_BYTES: usize = 514;
 
-pub const LINE_BYTES: usize = 515;
+pub const KEPT_BYTES: usize = FRAME_BYTES + 1;
 
 // More bytes than the longest answer, that of 256 waiting questions.
-pub type AnswerText = Text<32768>;
+pub type AnswerText = Begun<32768>;

@@ -8,14 +8,19 @@ mod session;
 mod taking;
 mod waiting;
 
+use console::Console;
 use taking::Desk;
 
-// A proved loop has to end, and nothing says that the input does. So the loop counts its turns, up to a number that no run uses up.
+// A proved loop has to end, and nothing says that the input does: no run uses up its turns.
 fn main(rt: HostRuntime) {
+    let console = Console {
+        rt: &rt,
+        name: b"inspect",
+    };
     let mut desk = Desk::new();
     let mut input = [0u8; 8192];
     for _ in 0..u64::MAX {
-        if !desk.take_some(&rt, &mut input) {
+        if !desk.take_some(console, &mut input) {
             return;
         }
     }

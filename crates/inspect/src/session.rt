@@ -88,9 +88,8 @@ impl Session {
             }
             Inquiry::Roll(hub, places) => self.tell_roll(hub, places, out),
             Inquiry::Owner(number) => {
-                let owner = ring::owner(self.words(), number);
-                let named = owner.map(|hub| Numbered("hub", hub));
-                write!(out, "owner of {number}: {}", Given(named))
+                let owner = ring::owner(self.words(), number).map(|hub| Numbered("hub", hub));
+                write!(out, "owner of {number}: {}", Given(owner))
             }
             Inquiry::Waiting => write!(out, "waiting: {}", Given(waiting(self.words()))),
             Inquiry::Counts => write!(out, "{}", Counted(self.tally)),

@@ -1,6 +1,6 @@
 // The waiting messages, which no public call hands out: they are read where the record is well formed.
-use protocol::form::{MESSAGE_WORDS, MESSAGES_AT, RECORD_WORDS};
 use protocol::Refusal;
+use protocol::form::{MESSAGE_WORDS, MESSAGES_AT, RECORD_WORDS};
 use wellformed::well_formed;
 use wording::Waiting;
 

@@ -4,7 +4,7 @@ use protocol::{Answer, Refusal, Tally};
 use std::fmt;
 
 // What was asked for, or why it was refused.
-#[derive(Clone, Copy)]
+#[derive(Drop)]
 pub struct Given<T>(pub Result<T, Refusal>);
 
 impl<T: fmt::Display> fmt::Display for Given<T> {

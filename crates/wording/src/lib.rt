@@ -1,5 +1,5 @@
 // What the ring says, in words: answers, refusals, rows, rolls, messages and counts as text (docs/INSPECT.md). Each has a type of its own whose
-// Display writes it, and a `Text` takes it in. The text is tested beside the model's, and not proved.
+// Display writes it. The text is tested beside the model's, and not proved.
 #![tactic(auto)]
 
 mod answers;
@@ -7,10 +7,8 @@ mod messages;
 mod names;
 mod refusals;
 mod rows;
-mod text;
 
 pub use answers::{Answered, Counted, Given, Numbered};
 pub use messages::{Sent, Waiting};
 pub use refusals::Refused;
 pub use rows::{HubRow, Places, UNWRITTEN};
-pub use text::Text;

@@ -1,9 +1,6 @@
--- The lines before `at` are answered. Assumes nothing.
-use Rattle.std.proofs.Common.{length, ◌-◌, ◌≤◌}
+-- The lines before what is left are answered. Assumes nothing.
+use Rattle.std.proofs.Common.{length}
 use Rattle.inspect.proofs.taking.Desk.take_bytes.Given as goal
 
-abbrev pub invariant-loop-at : goal.invariant-loop-at
-invariant-loop-at l = l.at ≤ length l.input
-
-abbrev pub decreases-loop-at : goal.decreases-loop-at
-decreases-loop-at l = length l.input - l.at
+abbrev pub decreases-loop-rest : goal.decreases-loop-rest
+decreases-loop-rest l = length l.left
