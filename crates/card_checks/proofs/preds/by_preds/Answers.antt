@@ -17,9 +17,6 @@ use Rattle.card_checks.proofs.preds.by_preds.Goals as goal
 pub loop-h-init : goal.loop-h-init
 loop-h-init c = (refl, (λ j l. absurd (omega arith)), sym (merged_none _), sym (total_none _), omega arith)
 
-pub overflow_add-circle : goal.overflow_add-circle
-overflow_add-circle c = let l = c.loop-h in omega (arith, l.invariant.4, c.arc-circle.ensures.1)
-
 pub loop-h-preserved : goal.loop-h-preserved
 loop-h-preserved c = let l = c.loop-h in
     let a = c.args in
