@@ -34,7 +34,8 @@ pub fn pick<T: Copy>(test: bool, a: T, b: T) -> T
     b
 }
 
-// 1 where the test fails, so that failures can be merged by `|` and looked at once, at the end.
+// 1 where the test fails, so that failures can be merged by `|` and looked at once, at the end. (By the test that must hold: `u32::from` would take
+// its negation.)
 pub fn failure(test: bool) -> u32
     ensures { result ≡ (when test then 0 else 1) }
 {

@@ -1,10 +1,7 @@
 -- `all_differ`: whether the identifiers before i differ, in steps of four and then of one. Assumes nothing.
-use mathlib.Core.Path.{◌≡◌, refl, ◌∙◌, ap}
+use mathlib.Core.Path.{refl, ◌∙◌, ap}
 use mathlib.Core.Bool.{◌&&◌}
-use Prim.Native.Nat.{◌+◌, ◌*◌, ◌/◌}
 use native.Mathlib.Omega.{arith}
-use lib.ListN.{length, take}
-use Rattle.std.proofs.Math.Seq.{take-length}
 use Rattle.lists.specs.Basics.{distinct}
 use Rattle.wellformed.specs.Laws.{one_more}
 use Rattle.wellformed.proofs.differ.all_differ.Goals as goal

@@ -1,8 +1,6 @@
 -- `Headed::messages_ok`: what is merged is 0 where the messages before j are as they must be. Assumes nothing.
-use mathlib.Core.Path.{◌≡◌, sym, ◌∙◌, ap, ap₂}
+use mathlib.Core.Path.{sym, ◌∙◌, ap, ap₂}
 use mathlib.Core.Bool.{◌&&◌}
-use native.Mathlib.Omega.{arith}
-use Rattle.lists.specs.Basics.{every, table}
 use Rattle.lists.specs.Merge.{or_test, every_none, every_more}
 use Rattle.protocol.specs.Record.{asked_in, message_start, message_from}
 use Rattle.protocol.specs.WellFormed.{message_ok}

@@ -1,9 +1,8 @@
 -- `Headed::rows_ok`: the tests of the rows before i, and their identifiers copied out. Assumes nothing.
-use mathlib.Core.Path.{◌≡◌, sym, ◌∙◌, ap, ap₂}
+use mathlib.Core.Path.{sym, ◌∙◌, ap, ap₂}
 use mathlib.Core.Bool.{◌&&◌}
 use native.Mathlib.Omega.{arith}
 use lib.ListN.{get_or}
-use Rattle.lists.specs.Basics.{every, table}
 use Rattle.lists.specs.Members.{filled}
 use Rattle.lists.specs.Merge.{every_none, every_more}
 use Rattle.protocol.specs.Record.{row_start, row_from}
