@@ -1,6 +1,6 @@
 // Do the machines of the cards differ? Each card is put into a bucket by its machine, and held against those that are in it already: `heads` has
 // one more than the last card of each bucket, `earlier` one more than the one before each card in its bucket, 0 for none. (Arrays and places in
-// them, since nothing here may allocate.)
+// them, since nothing here may allocate; words of 0 for none, since options would take twice the room, which is cleared at each call.)
 ghost use Rattle.std.specs.Prelude.{◌≡◌, ℕ, ◌<◌, IfSome, get_or};
 ghost use Rattle.lists.specs.Basics.{table, distinct};
 ghost use Rattle.card_checks.specs.Buckets.{machine_of, buckets, bucket_of, last, unmet};

@@ -23,11 +23,12 @@ fn homes_ok(w: &[u32], cards: &Cards, n: u32, names: &[u32; 64]) -> bool
     ensures { (ids : List ℕ) → Names ids → Copied names.now ids → length ids ≡ n → MarksForm n (marks_in cards.now.words.now) → result ≡ every (λ c. nat_eq c.hub (home ids (marked (marks_in cards.now.words.now)) c.machine)) (table cards.now.count (λ j. card_from cards.now.words.now (card_start j))) }
 {
     let members = Members {
+        record: w,
         names,
         marks: &cards.words[MARKS_AT..CARDS_AT],
         count: n as usize,
     };
-    let reaches = member_reaches(w, &members);
+    let reaches = member_reaches(&members);
     members.all_home(&reaches, cards)
 }
 

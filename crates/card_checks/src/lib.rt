@@ -13,4 +13,4 @@ mod preds;
 
 pub use content::book_ok;
 pub use marks::others;
-pub use owners::{names_of, nearest, pick_word, reach};
+pub use owners::{names_of, nearest, reach};

@@ -1,7 +1,7 @@
-// The nodes of a ring beside their marks: identifiers side by side, 0 behind the `count` nodes, and a mark for each member.
+// The nodes of a record beside their marks: the record's words, identifiers side by side, 0 behind the `count` nodes, and a mark for each member.
 ghost use Rattle.std.specs.Prelude.{◌≡◌, ℕ, ◌+◌, ◌≤◌, ◌<◌, length, get_or};
 ghost use Rattle.lists.specs.Basics.{every, table};
-ghost use Rattle.protocol.specs.Record.{most_nodes};
+ghost use Rattle.protocol.specs.Record.{most_nodes, record_size};
 ghost use Rattle.protocol.specs.Cards.{card_start, card_from};
 ghost use Rattle.cardlayout.specs.Reach.{reach as reach_spec};
 ghost use Rattle.card_checks.specs.Buckets.{machine_of};
@@ -13,9 +13,11 @@ use clockwise::distance;
 
 #[derive(Clone, Copy)]
 pub(crate) struct Members<'a> {
+    pub(crate) record: &'a [u32],
     pub(crate) names: &'a [u32; 64],
     pub(crate) marks: &'a [u32],
     pub(crate) count: usize,
+    ghost long: { record_size ≤ length record.now },
     ghost each: { length marks.now ≡ most_nodes },
     ghost few: { count ≤ most_nodes },
 }

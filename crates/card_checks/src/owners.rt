@@ -8,18 +8,10 @@ ghost use Rattle.cardlayout.specs.Reach.{top, least, gap as gap_spec, reach as r
 ghost use Rattle.card_checks.specs.Homes.{Copied, nearest as nearest_spec};
 
 use clockwise::distance;
+use lists::pick;
 use protocol::form::{ROW_WORDS, ROWS_AT};
 
 const TOP: u32 = 4294967295;
-
-pub fn pick_word(test: bool, a: u32, b: u32) -> u32
-    ensures { result ≡ (when test then a else b) }
-{
-    if test {
-        return a;
-    }
-    b
-}
 
 // How far b's numbers reach back if a comes before it: all the way round where a is b.
 pub(crate) fn gap(a: u32, b: u32) -> u32
@@ -32,7 +24,7 @@ pub(crate) fn gap(a: u32, b: u32) -> u32
 }
 
 // The least of what `far` says of the marked nodes' identifiers, and of 2^32 - 1. (Nodes without a mark have 2^32 - 1, so that the loop has no
-// branch, and is vectorised.)
+// branch, and is vectorised. Slices of any lengths, and no struct of both, since callers may lend such.)
 fn least<F: Fn(u32) -> u32>(names: &[u32], marks: &[u32], far: F) -> u32
     requires callable { F.IsAlwaysCallable far }
     requires long { length marks.now ≤ length names.now }
@@ -40,7 +32,7 @@ fn least<F: Fn(u32) -> u32>(names: &[u32], marks: &[u32], far: F) -> u32
 {
     let mut best = TOP;
     for m in 0..marks.len() {
-        best = best.min(pick_word(marks[m] == 1, far(names[m]), TOP));
+        best = best.min(pick(marks[m] == 1, far(names[m]), TOP));
     }
     best
 }

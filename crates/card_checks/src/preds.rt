@@ -1,8 +1,7 @@
 // Reaches out of the record: each member's gap back to its pred. Where these preds are members, and the gaps go round the circle just once, none of
 // them is too wide (cardlayout/specs/Circle.antt). So it is in every record that a ring reaches, but where a JOINPOINT waits: then they are searched.
-ghost use Rattle.std.specs.Prelude.{◌≡◌, IfSome, ◌+◌, ◌≤◌, length};
+ghost use Rattle.std.specs.Prelude.{◌≡◌, IfSome, ◌+◌, ◌≤◌};
 ghost use Rattle.lists.specs.Basics.{when◌then◌else◌};
-ghost use Rattle.protocol.specs.Record.{record_size};
 ghost use Rattle.card_checks.specs.Preds.{Reaches};
 
 use crate::members::Members;
@@ -23,16 +22,16 @@ fn arc(member: bool, far: u32) -> u64
     0
 }
 
-// The gaps back to the preds, where they are the members' reaches.
-fn by_preds(w: &[u32], members: &Members) -> Option<[u32; 64]>
-    requires { record_size ≤ length w.now }
+// The gaps back to the preds, where they are the members' reaches. (One loop for all that is asked of a row: a chain for each would read the rows
+// three times.)
+fn by_preds(members: &Members) -> Option<[u32; 64]>
     ensures { IfSome result (Reaches members.now.names.now members.now.marks.now members.now.count) }
 {
     let mut reaches = [0u32; 64];
     let mut strangers: u32 = 0;
     let mut circle: u64 = 0;
     for h in 0..members.count {
-        let pred = (w[ROWS_AT + ROW_WORDS * h + PRED_AT] % 64) as usize;
+        let pred = (members.record[ROWS_AT + ROW_WORDS * h + PRED_AT] % 64) as usize;
         let member = members.marks[h] == 1;
         let far = gap(members.names[pred], members.names[h]);
         strangers |= when(member, failure(members.marks[pred] == 1));
@@ -46,11 +45,10 @@ fn by_preds(w: &[u32], members: &Members) -> Option<[u32; 64]>
 }
 
 // The reach of each member.
-pub(crate) fn member_reaches(w: &[u32], members: &Members) -> [u32; 64]
-    requires { record_size ≤ length w.now }
+pub(crate) fn member_reaches(members: &Members) -> [u32; 64]
     ensures { Reaches members.now.names.now members.now.marks.now members.now.count result }
 {
-    match by_preds(w, members) {
+    match by_preds(members) {
         Some(reaches) => reaches,
         None => members.reaches(),
     }

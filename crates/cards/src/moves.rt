@@ -7,8 +7,9 @@ ghost use Rattle.cardlayout.specs.Books.{Neat};
 ghost use Rattle.card_checks.specs.Ready.{Ready};
 ghost use Rattle.cards.specs.Moves.{handed};
 
-use card_checks::{nearest, pick_word, reach};
+use card_checks::{nearest, reach};
 use clockwise::distance;
+use lists::pick;
 use protocol::form::{CARD_WORDS, CARDS_AT, MARKS_AT};
 
 // The m cards: each whose machine is at most `far` before the identifier gets the hub.
@@ -19,7 +20,7 @@ fn hand_over(k: &mut [u32], m: usize, id: u32, far: u32, hub: u32)
     let mut j = 0;
     while j < m {
         let at = CARDS_AT + CARD_WORDS * j;
-        k[at + 3] = pick_word(distance(k[at], id) <= far, hub, k[at + 3]);
+        k[at + 3] = pick(distance(k[at], id) <= far, hub, k[at + 3]);
         j += 1;
     }
 }

@@ -23,7 +23,9 @@ pub fn either(a: bool, b: bool) -> bool
     b
 }
 
-pub fn pick(test: bool, a: bool, b: bool) -> bool
+// One of two values, without a branch at the caller. (An `if` over the tests of a row, in its place, keeps the loop over rows from being vectorised:
+// half as many instructions more.)
+pub fn pick<T: Copy>(test: bool, a: T, b: T) -> T
     ensures { result ≡ (when test then a else b) }
 {
     if test {
@@ -32,7 +34,8 @@ pub fn pick(test: bool, a: bool, b: bool) -> bool
     b
 }
 
-// 1 where the test fails, so that failures can be merged by `|` and looked at once, at the end.
+// 1 where the test fails, so that failures can be merged by `|` and looked at once, at the end. (By the test that must hold: `u32::from` would take
+// its negation.)
 pub fn failure(test: bool) -> u32
     ensures { result ≡ (when test then 0 else 1) }
 {

@@ -17,8 +17,8 @@ loop-m-preserved g c = let a = c.args in
     let l = c.loop-m in
     λ h p.
     (let F : ℕ → ℕ = λ m. when nat_eq (get_or a.marks.now m 0) 1 then h (get_or a.names.now m 0) else top in
-    let e : c.pick_word.result ≡ F l.m = c.pick_word.ensures ∙ ap (λ z. when nat_eq (get_or a.marks.now l.m 0) 1 then z else top) (p _ _ (omega (arith, c.type_inv.names l.m)) c.far.ensures) in
-    c.min-best.ensures ∙ least_next F l.m l.best c.pick_word.result (l.invariant h p) e)
+    let e : c.pick.result ≡ F l.m = c.pick.ensures ∙ ap (λ z. when nat_eq (get_or a.marks.now l.m 0) 1 then z else top) (p _ _ (omega (arith, c.type_inv.names l.m)) c.far.ensures) in
+    c.min-best.ensures ∙ least_next F l.m l.best c.pick.result (l.invariant h p) e)
 
 pub returns : goal.returns
 returns g c = let a = c.args in

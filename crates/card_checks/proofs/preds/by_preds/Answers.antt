@@ -17,13 +17,10 @@ use Rattle.card_checks.proofs.preds.by_preds.Goals as goal
 pub loop-h-init : goal.loop-h-init
 loop-h-init c = (refl, (λ j l. absurd (omega arith)), sym (merged_none _), sym (total_none _), omega arith)
 
-pub overflow_add-circle : goal.overflow_add-circle
-overflow_add-circle c = let l = c.loop-h in omega (arith, l.invariant.4, c.arc-circle.ensures.1)
-
 pub loop-h-preserved : goal.loop-h-preserved
 loop-h-preserved c = let l = c.loop-h in
     let a = c.args in
-    let w = a.w.now in
+    let w = a.members.now.record.now in
     let names = a.members.now.names.now in
     let marks = a.members.now.marks.now in
     let far = c.gap-far in (
@@ -40,7 +37,7 @@ returns-then-strangers-circle c = let l = c.loop-h in
     let marks = c.args.members.now.marks.now in
     let e : l.h ≡ n = omega arith in
     λ ids N C size M. let both = true_T _ c.if-strangers-circle.true in
-    preds_law ids c.args.members.now.names.now marks c.args.w.now l.reaches n N C size M c.args.members.now.each c.args.members.now.few
+    preds_law ids c.args.members.now.names.now marks c.args.members.now.record.now l.reaches n N C size M c.args.members.now.each c.args.members.now.few
     (λ h k. l.invariant.1 h (omega arith))
-    (ap (λ z. merged z (strange c.args.w.now marks)) (sym e) ∙ sym l.invariant.2 ∙ eqb→eq l.strangers 0 (and_left (nat_eq l.strangers 0) _ both))
-    (ap (total (arc_back c.args.w.now c.args.members.now.names.now marks)) (sym e) ∙ sym l.invariant.3 ∙ eqb→eq l.circle 4294967296 (and_right (nat_eq l.strangers 0) _ both))
+    (ap (λ z. merged z (strange c.args.members.now.record.now marks)) (sym e) ∙ sym l.invariant.2 ∙ eqb→eq l.strangers 0 (and_left (nat_eq l.strangers 0) _ both))
+    (ap (total (arc_back c.args.members.now.record.now c.args.members.now.names.now marks)) (sym e) ∙ sym l.invariant.3 ∙ eqb→eq l.circle 4294967296 (and_right (nat_eq l.strangers 0) _ both))

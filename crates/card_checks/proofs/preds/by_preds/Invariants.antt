@@ -8,5 +8,5 @@ use Rattle.card_checks.specs.Preds.{gap_back, strange, arc_back}
 use Rattle.card_checks.proofs.preds.by_preds.Given as goal
 
 abbrev pub invariant-loop-h : goal.invariant-loop-h
-invariant-loop-h l = (length l.reaches ≡ 64) × ((j : ℕ) → j < l.h → get_or l.reaches j 0 ≡ gap_back l.w l.members.names.now j)
-    × (l.strangers ≡ merged l.h (strange l.w l.members.marks.now)) × (l.circle ≡ total (arc_back l.w l.members.names.now l.members.marks.now) l.h) × (l.circle ≤ 4294967296 * l.h)
+invariant-loop-h l = (length l.reaches ≡ 64) × ((j : ℕ) → j < l.h → get_or l.reaches j 0 ≡ gap_back l.members.record.now l.members.names.now j)
+    × (l.strangers ≡ merged l.h (strange l.members.record.now l.members.marks.now)) × (l.circle ≡ total (arc_back l.members.record.now l.members.names.now l.members.marks.now) l.h) × (l.circle ≤ 4294967296 * l.h)

@@ -27,10 +27,10 @@ loop-j-preserved c = let a = c.args in
     let u : l.j < length (read_book k).cards = omega (arith, count_of_book k, c.requires.1) in
     let t = drop book_size k in
     let p : Card → ℕ = λ z. when nat_le (dist round z.machine a.id) a.far then a.hub else z.hub in
-    let e : c.pick_word.result ≡ p (get_or (read_book k).cards l.j Rattle.protocol.specs.Cards.no_card) =
-    c.pick_word.ensures ∙ ap (λ z. when nat_le z a.far then a.hub else get_or l.k (card_start l.j + 3) 0) c.distance.ensures
+    let e : c.pick.result ≡ p (get_or (read_book k).cards l.j Rattle.protocol.specs.Cards.no_card) =
+    c.pick.ensures ∙ ap (λ z. when nat_le z a.far then a.hub else get_or l.k (card_start l.j + 3) 0) c.distance.ensures
     ∙ ap p (ap (λ z. card_from z (card_start l.j)) l.invariant.2 ∙ handed_read a.id a.far a.hub (read_book k) t f l.j u) in
-    (search rules, simp length-set l.invariant.1, ap (λ z. set z (card_start l.j + 3) c.pick_word.result) l.invariant.2 ∙ handed_more a.id a.far a.hub (read_book k) t f l.j u c.pick_word.result e)
+    (search rules, simp length-set l.invariant.1, ap (λ z. set z (card_start l.j + 3) c.pick.result) l.invariant.2 ∙ handed_more a.id a.far a.hub (read_book k) t f l.j u c.pick.result e)
 
 pub returns : goal.returns
 unfolding read_book

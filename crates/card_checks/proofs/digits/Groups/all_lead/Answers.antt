@@ -1,8 +1,7 @@
 -- `Groups::all_lead`: the tests of the cards before i. Assumes nothing.
-use mathlib.Core.Path.{◌≡◌, sym, ◌∙◌, ap, ap₂}
+use mathlib.Core.Path.{sym, ◌∙◌, ap, ap₂}
 use mathlib.Core.Bool.{◌&&◌}
 use Prim.Native.Nat.{◌+◌}
-use native.Mathlib.Omega.{arith}
 use Rattle.std.specs.Prelude.{nat_eq}
 use lib.ListN.{get_or}
 use Rattle.lists.specs.Basics.{when◌then◌else◌}
@@ -18,7 +17,3 @@ loop-i-preserved c = let l = c.loop-i in
     let t = nat_eq (get_or c.args.self.now.names l.i 0) (l.i + 1) in
     ap₂ (λ x y. x && y) l.invariant (sym (failure_test t))
     ∙ sym (ap (λ z. nat_eq z 0) (merged_more l.i (λ i. when nat_eq (get_or c.args.self.now.names i 0) (i + 1) then 0 else 1)) ∙ or_test (following l.i c.args.self.now.names) (when t then 0 else 1))
-
-pub returns : goal.returns
-returns c = let e : c.loop-i.i ≡ c.args.self.now.count = omega arith in
-    c.loop-i.invariant ∙ ap (λ k. nat_eq (following k c.args.self.now.names) 0) e

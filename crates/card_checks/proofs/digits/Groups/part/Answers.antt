@@ -4,25 +4,11 @@ use mathlib.Core.Path.{refl, sym, subst}
 use Prim.Native.Nat.{◌+◌, ◌*◌, ◌/◌, ◌%◌}
 use native.Mathlib.Omega.{arith}
 use lib.ListN.{get_or, set, get_or-replicate}
-use Rattle.card_checks.specs.Digits.{Parting, parting_none, parting_more, parting_all, slot_below}
+use Rattle.card_checks.specs.Digits.{Parting, parting_none, parting_more, slot_below}
 use Rattle.card_checks.proofs.digits.Groups.part.Goals as goal
 
 pub loop-i-init : goal.loop-i-init
 loop-i-init c = (search rules, refl, parting_none c.args.self.now.count c.args.self.now.rest c.args.self.now.names _ (λ b l. get_or-replicate 8208 b 0 0 l))
-
-pub overflow_mul-slot : goal.overflow_mul-slot
-overflow_mul-slot c = let l = c.loop-i in omega (arith, slot_below c.args.self.now.count c.args.self.now.rest c.args.self.now.names l.i l.self.rest l.self.names l.slots l.invariant.2 (omega arith) c.requires)
-
-pub overflow_add-slot : goal.overflow_add-slot
-overflow_add-slot c = let l = c.loop-i in omega (arith, slot_below c.args.self.now.count c.args.self.now.rest c.args.self.now.names l.i l.self.rest l.self.names l.slots l.invariant.2 (omega arith) c.requires)
-
-pub overflow_cast-slot : goal.overflow_cast-slot
-overflow_cast-slot c = let l = c.loop-i in omega (arith, slot_below c.args.self.now.count c.args.self.now.rest c.args.self.now.names l.i l.self.rest l.self.names l.slots l.invariant.2 (omega arith) c.requires)
-
-pub first_come-first-requires : goal.first_come-first-requires
-first_come-first-requires c = let l = c.loop-i in
-    let b = slot_below c.args.self.now.count c.args.self.now.rest c.args.self.now.names l.i l.self.rest l.self.names l.slots l.invariant.2 (omega arith) c.requires in
-    (b, search rules)
 
 pub loop-i-preserved : goal.loop-i-preserved
 loop-i-preserved c = let l = c.loop-i in
@@ -33,7 +19,3 @@ loop-i-preserved c = let l = c.loop-i in
     (parting_more c.args.self.now.count c.args.self.now.rest c.args.self.now.names l.i (get_or l.self.names l.i 0 * 16 + get_or l.self.rest l.i 0 % 16) f.result l.self.rest l.self.names l.slots l.invariant.2
     (omega arith) (omega arith) (omega arith) (omega arith) b refl f.ensures.0) in
     (search rules, search rules, subst (λ z. Parting c.args.self.now.count (l.i + 1) c.args.self.now.rest c.args.self.now.names (set l.self.rest l.i (get_or l.self.rest l.i 0 / 16)) (set l.self.names l.i z) f.new.slots) (sym c.from.ensures) made)
-
-pub returns : goal.returns
-returns c = let l = c.loop-i in
-    (l.invariant.1, parting_all c.args.self.now.count c.args.self.now.rest c.args.self.now.names l.i l.self.rest l.self.names l.slots l.invariant.2 (omega arith))

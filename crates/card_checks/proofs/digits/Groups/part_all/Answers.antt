@@ -1,5 +1,5 @@
 -- `Groups::part_all`: between the passes two cards of one group have the same digits so far, and some card does not lead its group. Assumes nothing.
-use mathlib.Core.Path.{◌≡◌, refl, sym, ◌∙◌, ap, subst}
+use mathlib.Core.Path.{◌≡◌, sym, ◌∙◌, ap, subst}
 use Prim.Native.Nat.{suc, ◌+◌, ◌-◌}
 use native.Mathlib.Omega.{arith}
 use Rattle.std.specs.Prelude.{nat_eq}
@@ -7,12 +7,6 @@ use Rattle.std.proofs.Common.{eqb→eq, true≢false}
 use Rattle.lists.specs.Tests.{T_true, true_T, →eqb}
 use Rattle.card_checks.specs.Digits.{Grouped, Parted, following, parted_led, led_few, grouped_next, grouped_yes, grouped_no}
 use Rattle.card_checks.proofs.digits.Groups.part_all.Goals as goal
-
-pub loop-pass-init : goal.loop-pass-init
-loop-pass-init c = (refl, c.requires, (λ f g. g), (λ l. absurd (omega arith)), λ l. absurd (omega arith))
-
-pub part-requires : goal.part-requires
-part-requires c = λ j u. c.loop-pass.invariant.1 j (omega (arith, c.loop-pass.invariant.0))
 
 pub returns-then-all_lead : goal.returns-then-all_lead
 returns-then-all_lead c = let l = c.loop-pass in

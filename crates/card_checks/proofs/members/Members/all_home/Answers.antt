@@ -1,8 +1,6 @@
 -- `Members::all_home`: the tests of the cards before j. Assumes nothing.
-use mathlib.Core.Path.{◌≡◌, sym, ◌∙◌, ap, ap₂}
+use mathlib.Core.Path.{sym, ◌∙◌, ap₂}
 use mathlib.Core.Bool.{◌&&◌}
-use native.Mathlib.Omega.{arith}
-use Rattle.lists.specs.Basics.{every, table}
 use Rattle.lists.specs.Merge.{every_none, every_more}
 use Rattle.protocol.specs.Cards.{card_start, card_from}
 use Rattle.card_checks.specs.Homes.{at_home}
@@ -15,8 +13,3 @@ pub loop-j-preserved : goal.loop-j-preserved
 loop-j-preserved c = let a = c.args in
     let l = c.loop-j in
     ap₂ (λ x y. x && y) l.invariant c.at_home-ok.ensures ∙ sym (every_more (λ z. at_home a.self.now.names.now a.self.now.marks.now a.reaches.now z.machine z.hub) (λ j. card_from a.cards.now.words.now (card_start j)) l.j)
-
-pub returns : goal.returns
-returns c = let a = c.args in
-    let e : c.loop-j.j ≡ a.cards.now.count = omega arith in
-    c.loop-j.invariant ∙ ap (λ n. every (λ z. at_home a.self.now.names.now a.self.now.marks.now a.reaches.now z.machine z.hub) (table n (λ j. card_from a.cards.now.words.now (card_start j)))) e

@@ -1,8 +1,6 @@
 -- `Headed::messages_ok`: what is merged is 0 where the messages before j are as they must be. Assumes nothing.
-use mathlib.Core.Path.{◌≡◌, sym, ◌∙◌, ap, ap₂}
+use mathlib.Core.Path.{sym, ◌∙◌, ap, ap₂}
 use mathlib.Core.Bool.{◌&&◌}
-use native.Mathlib.Omega.{arith}
-use Rattle.lists.specs.Basics.{every, table}
 use Rattle.lists.specs.Merge.{or_test, every_none, every_more}
 use Rattle.protocol.specs.Record.{asked_in, message_start, message_from}
 use Rattle.protocol.specs.WellFormed.{message_ok}
@@ -18,9 +16,3 @@ loop-j-preserved c =
     or_test l.bad c.bad_message-bad.result
     ∙ ap₂ (λ x y. x && y) l.invariant (c.bad_message-bad.ensures ∙ ap (message_ok a.self.now.nodes (asked_in a.self.now.words.now)) c.message_at.ensures)
     ∙ sym (every_more (message_ok a.self.now.nodes (asked_in a.self.now.words.now)) (λ j. message_from a.self.now.words.now (message_start j)) l.j)
-
-pub returns : goal.returns
-returns c =
-    let a = c.args in
-    let e : c.loop-j.j ≡ a.self.now.messages = omega arith in
-    c.loop-j.invariant ∙ ap (λ k. every (message_ok a.self.now.nodes (asked_in a.self.now.words.now)) (table k (λ j. message_from a.self.now.words.now (message_start j)))) e

@@ -1,9 +1,8 @@
 -- `Headed::rows_ok`: the tests of the rows before i, and their identifiers copied out. Assumes nothing.
-use mathlib.Core.Path.{◌≡◌, sym, ◌∙◌, ap, ap₂}
+use mathlib.Core.Path.{sym, ◌∙◌, ap, ap₂}
 use mathlib.Core.Bool.{◌&&◌}
 use native.Mathlib.Omega.{arith}
 use lib.ListN.{get_or}
-use Rattle.lists.specs.Basics.{every, table}
 use Rattle.lists.specs.Members.{filled}
 use Rattle.lists.specs.Merge.{every_none, every_more}
 use Rattle.protocol.specs.Record.{row_start, row_from}
@@ -21,10 +20,3 @@ loop-i-preserved c =
       ap₂ (λ x y. x && y) l.invariant.0 (c.row_ok-ok.ensures ∙ ap (row_ok a.self.now.nodes) h.ensures) ∙ sym (every_more (row_ok a.self.now.nodes) (λ j. row_from a.self.now.words.now (row_start j)) l.i),
       filled l.ids l.i h.result.identifier 0 (λ k. get_or a.self.now.words.now (row_start k) 0) (omega arith) (ap (λ r. r.identifier) h.ensures) l.invariant.1,
     )
-
-pub returns : goal.returns
-returns c =
-    let a = c.args in
-    let l = c.loop-i in
-    let e : l.i ≡ a.self.now.nodes = omega arith in
-    (l.invariant.0 ∙ ap (λ k. every (row_ok a.self.now.nodes) (table k (λ i. row_from a.self.now.words.now (row_start i)))) e, λ i u. l.invariant.1 i (omega arith))
