@@ -18,9 +18,6 @@ ends l o n z e f =
     let w = name_within l (zeros l - 1) (omega arith) in
     (k, omega arith)
 
-pub split_at-requires : goal.split_at-requires
-split_at-requires c = let e = ends c.args.names.now _ _ c.requires c.zero_in.ensures c.unwrap_or-end.ensures in omega arith
-
 pub slice_bounds-result-count : goal.slice_bounds-result-count
 slice_bounds-result-count c =
     let e = ends c.args.names.now _ _ c.requires c.zero_in.ensures c.unwrap_or-end.ensures in
