@@ -1,34 +1,40 @@
 -- What the reading calls give, question by question, and the rows that fill the lent buffers. Assumes nothing.
 use Rattle.std.proofs.Math.Path.{◌≡◌, refl, ap, ap₂, sym}
-use Rattle.std.proofs.Common.{◌∙◌, ltb-true, le-leb}
-use Rattle.std.specs.Prelude.{Bool, true, false, ◌&&◌, ◌||◌, List, [], ◌∷◌, ◌++◌, ℕ, ◌+◌, ◌≤◌, ◌<◌, min, T, nat_lt, length}
+use Rattle.std.proofs.Common.{◌∙◌, le-leb}
+use Rattle.std.specs.Option.{ok_or}
+use Rattle.protocol.specs.declared.refusal.Refusal.{Refusal}
+use Rattle.std.specs.Prelude.{Option, Some, None, Ok, Err, Bool, true, false, ◌&&◌, List, [], ◌∷◌, ◌++◌, ℕ, ◌+◌, ◌*◌, ◌≤◌, ◌<◌, min, length}
 use native.Mathlib.Omega.{arith}
 use Rattle.std.proofs.lemmas.Bool.{lt-leb}
 use Rattle.std.proofs.Common.{nat_le}
 use Rattle.std.proofs.Math.ListN.{length-append}
+use Rattle.std.proofs.Math.Nat.{mul-le-mul_left}
 use Rattle.lists.specs.Basics.{require, every}
 use Rattle.lists.specs.Choice.{on_yes, on_no}
-use Rattle.lists.specs.Tests.{and_false, true_T}
+use Rattle.lists.specs.Tests.{and_false}
 use Rattle.lists.specs.Splice.{splice}
 use Rattle.protocol.specs.declared.refusal.Refusal.TheVariants.{NoSheet, IdentifierTooLarge, RoomShort}
-use Rattle.sheet_reading.specs.declared.Judged.{Judged}
-use Rattle.sheet_reading.specs.declared.Judged.TheVariants.{None as NotOne, Sheet}
+use Rattle.sheet_reading.specs.declared.Sheet.{Sheet}
+use Rattle.sheet_reading.specs.declared.Row.{Row}
 use Rattle.sheet_reading.specs.declared.RowPut.{RowPut}
-use Rattle.sheet_reading.specs.declared.RowRead.TheVariants.{None as NoRow, Read as RowAt}
 use Rattle.sheets.specs.declared.Place.TheVariants.{Start}
 use Rattle.sheets.specs.Reader.{Said, nothing, lists, fresh, reading, ending, ended_as}
 use Rattle.sheets.specs.Calls.{done, laid, is_word, SheetRead, unread, read_into}
-use Rattle.sheets.specs.Words.{word, words, words_append, words_same, cap_word, every_one}
+use Rattle.sheets.specs.Words.{word, words, length_words, words_append, words_same, cap_word, every_one}
 use Rattle.sheets.specs.Laying.{laid_none, laid_more}
 use Rattle.sheets.proofs.Sound.{same_lists}
+use Rattle.sheet_reading.specs.Carried.{Forms}
 use Rattle.sheet_reading.specs.Onward.{onward, onward_end, onward_grows}
 use Rattle.sheet_reading.specs.Judged.{RowIs}
 use Rattle.sheet_reading.specs.Put.{Readable, RowPutIs}
 
+abbrev sheet : ℕ → ℕ → Bool → Sheet
+sheet r b f = record { rows = r; bytes = b; fits = f }
+
 -- What a text is, before the outputs are looked at.
-unfoldable pub judged : Said → Judged
-judged nothing = NotOne
-judged (lists n i) = Sheet (length i) (length n) (every is_word i)
+unfoldable pub judged : Said → Option Sheet
+judged nothing = None
+judged (lists n i) = Some (record { rows = length i; bytes = length n; fits = every is_word i })
 
 -- Judging: the rows up to i are counted.
 pub record Counted (t : List ℕ) (i rows bytes : ℕ) (fits : Bool) : Type 0 where
@@ -50,12 +56,12 @@ length_one : (l : List ℕ) (v : ℕ) → length (l ++ (v ∷ [])) ≡ length l 
 length_one l v = length-append l (v ∷ [])
 
 module _ (t : List ℕ) (i rows bytes : ℕ) (fits : Bool) (c : Counted t i rows bytes fits) where
-  pub counted_row : (end more value : ℕ) → RowIs t i (RowAt end more value) → Counted t end (rows + 1) (bytes + more) (fits && nat_le value 4294967295)
+  pub counted_row : (x : Row) → RowIs t i (Some x) → Counted t x.end (rows + 1) (bytes + x.bytes) (fits && nat_le x.value 4294967295)
   unfolding RowIs is_word
-  counted_row end more value r =
+  counted_row x r =
       let a = r.ahead in
       let s = r.size in
-      let x = c.counts in
+      let u = c.counts in
       let y = c.sizes in
       let b = c.below in
       let l = length_one c.numbers r.number in
@@ -73,54 +79,60 @@ module _ (t : List ℕ) (i rows bytes : ℕ) (fits : Bool) (c : Counted t i rows
         below = (omega arith, omega arith);
       }
 
-  pub counted_wrong : RowIs t i NoRow → NotOne ≡ judged (reading t)
+  pub counted_wrong : RowIs t i None → None ≡ judged (reading t)
   unfolding RowIs judged
   counted_wrong r = sym (ap judged (c.says ∙ r c.names c.numbers c.value))
 
-  pub counted_all_lem : length t ≤ i → Sheet rows bytes fits ≡ judged (reading t)
+  pub counted_all_lem : length t ≤ i → Some (record { rows = rows; bytes = bytes; fits = fits }) ≡ judged (reading t)
   unfolding judged ended_as ending
   counted_all_lem h =
-      ap (λ z. Sheet rows bytes z) c.fitting ∙ ap₂ (λ p q. Sheet p q (every is_word c.numbers)) c.counts c.sizes
+      ap (λ z. Some (sheet rows bytes z)) c.fitting ∙ ap₂ (λ p q. Some (sheet p q (every is_word c.numbers))) c.counts c.sizes
       ∙ sym (ap judged (c.says ∙ onward_end t Start c.names c.numbers c.value i h))
 
 -- A sheet that was judged.
-pub record Accepted (s : Said) (r b : ℕ) (f : Bool) : Type 0 where
+pub record Accepted (s : Said) (x : Sheet) : Type 0 where
   pub n : List ℕ
   pub i : List ℕ
   pub is : s ≡ lists n i
-  pub fit : f ≡ every is_word i
-  pub rows : r ≡ length i
-  pub bytes : b ≡ length n
+  pub fit : x.fits ≡ every is_word i
+  pub rows : x.rows ≡ length i
+  pub bytes : x.bytes ≡ length n
 
-pub accepted : (r b : ℕ) (f : Bool) (s : Said) → Sheet r b f ≡ judged s → Accepted s r b f
+pub accepted : (x : Sheet) (s : Said) → Some x ≡ judged s → Accepted s x
 unfolding judged
-accepted r b f nothing e = absurd (let q : ◌≡◌ {A = ℕ} 0 1 = cc in omega arith)
-accepted r b f (lists n i) e = record { n = n; i = i; is = refl; fit = cc; rows = cc; bytes = cc }
+accepted x nothing e = absurd (let q : ◌≡◌ {A = ℕ} 0 1 = cc in omega arith)
+accepted x (lists n i) e =
+    let o : x ≡ sheet (length i) (length n) (every is_word i) = cc in
+    record { n = n; i = i; is = refl; fit = ap (λ z. z.fits) o; rows = ap (λ z. z.rows) o; bytes = ap (λ z. z.bytes) o }
 
--- two tests of which none passes
-pub neither : (p q : Bool) → (p || q) ≡ false → (p ≡ false) × (q ≡ false)
-neither true q e = (e, absurd (let z : T false = true_T false (sym e) in z))
-neither false q e = (refl, e)
+-- a sheet, or the refusal for none
+pub sheet_some : (o : Option Sheet) (k : Refusal) (x : Sheet) → Ok x ≡ ok_or o k → Some x ≡ o
+sheet_some None k x e = cc
+sheet_some (Some y) k x e = let q : x ≡ y = cc in ap (λ z. Some z) q
+
+pub sheet_none : (o : Option Sheet) (k e : Refusal) → Err e ≡ ok_or o k → None ≡ o
+sheet_none None k x e = refl
+sheet_none (Some y) k x e = cc
 
 -- The sheet's lists fit into buffers of these lengths.
 abbrev pub Roomy : Said → (List ℕ → List ℕ) → ℕ → ℕ → Type 0
 Roomy s form k l = (n : List ℕ) × (i : List ℕ) × (s ≡ lists n i) × (length (form i) ≤ k) × (length n ≤ l)
 
 module _ (form : List ℕ → List ℕ) where
-  pub read_none : (ids names : List ℕ) (s : Said) → NotOne ≡ judged s → read_into form ids names s ≡ unread ids names NoSheet
+  pub read_none : (ids names : List ℕ) (s : Said) → None ≡ judged s → read_into form ids names s ≡ unread ids names NoSheet
   unfolding judged read_into
   read_none ids names nothing e = refl
   read_none ids names (lists n i) e = absurd (let q : ◌≡◌ {A = ℕ} 0 1 = cc in omega arith)
 
-  module _ (ids names : List ℕ) (r b : ℕ) (f : Bool) (s : Said) (e : Sheet r b f ≡ judged s) where
-    abbrev pub a : Accepted s r b f
-    a = accepted r b f s e
+  module _ (ids names : List ℕ) (x : Sheet) (s : Said) (e : Some x ≡ judged s) where
+    abbrev pub a : Accepted s x
+    a = accepted x s e
 
-    pub too_large : f ≡ false → read_into form ids names s ≡ unread ids names IdentifierTooLarge
+    pub too_large : x.fits ≡ false → read_into form ids names s ≡ unread ids names IdentifierTooLarge
     unfolding read_into
     too_large q = ap (read_into form ids names) a.is ∙ on_no (every is_word a.i) _ _ (sym a.fit ∙ q)
 
-    module _ (all : f ≡ true) where
+    module _ (all : x.fits ≡ true) where
       fits : every is_word a.i ≡ true
       fits = sym a.fit ∙ all
 
@@ -129,27 +141,39 @@ module _ (form : List ℕ → List ℕ) where
       unfolding read_into
       rest_of k e = ap (read_into form ids names) a.is ∙ on_yes (every is_word a.i) _ _ fits ∙ e
 
-      -- is an output too short? asked of the places that the identifiers have
-      pub room_short : (q : Bool) → (q ≡ true → length ids < length (form a.i)) → (q || nat_lt (length names) b) ≡ true → read_into form ids names s ≡ unread ids names RoomShort
-      room_short true g e = rest_of _ (on_no _ _ _ (rw (lt-leb (length (form a.i)) (length ids) (g refl))))
-      room_short false g e =
-          let x = a.bytes in
-          let h = ltb-true (length names) b e in
+      -- is an output too short? asked of the identifiers that have room
+      pub ids_short : (each room : ℕ) → Forms form each → length ids < each * (room + 1) → room < x.rows → read_into form ids names s ≡ unread ids names RoomShort
+      ids_short each room laws most h =
+          let y = a.rows in
+          let z = laws.size a.i in
+          let m : each * (room + 1) ≤ each * length a.i = mul-le-mul_left each (omega arith) in
+          rest_of _ (on_no _ _ _ (rw (lt-leb (length (form a.i)) (length ids) (omega arith))))
+
+      pub names_short : length names < x.bytes → read_into form ids names s ≡ unread ids names RoomShort
+      names_short h =
+          let y = a.bytes in
           rest_of _ (on_no _ _ _ (rw (lt-leb (length a.n) (length names) (omega arith)) (and_false (nat_le (length (form a.i)) (length ids)))))
 
-      module _ (h : length (form a.i) ≤ length ids) (k : b ≤ length names) where
+      module _ (each room : ℕ) (laws : Forms form each) (has : each * room ≤ length ids) (enough : x.rows ≤ room) (k : x.bytes ≤ length names) where
+        h : length (form a.i) ≤ length ids
+        h =
+            let y = a.rows in
+            let z = laws.size a.i in
+            let m : each * length a.i ≤ each * room = mul-le-mul_left each (omega arith) in
+            omega arith
+
         pub roomy : Roomy s form (length ids) (length names)
         roomy = let y = a.bytes in (a.n, a.i, a.is, h, omega arith)
 
-        pub all_read : (u w : List ℕ) → ((n c : List ℕ) → s ≡ lists n c → (u ≡ laid ids (form (words c))) × (w ≡ laid names n)) → read_into form ids names s ≡ record { outcome = done r b; identifiers = u; names = w }
+        pub all_read : (u w : List ℕ) → ((n c : List ℕ) → s ≡ lists n c → (u ≡ laid ids (form (words c))) × (w ≡ laid names n)) → read_into form ids names s ≡ record { outcome = done x.rows x.bytes; identifiers = u; names = w }
         all_read u w f =
-            let x = a.rows in
+            let z = a.rows in
             let y = a.bytes in
             let g = f a.n a.i a.is in
             rest_of _ (
             on_yes _ _ _ (rw (le-leb (length (form a.i)) (length ids) h, le-leb (length a.n) (length names) (omega arith)))
-            ∙ ap₂ (λ p q. record { outcome = done p q; identifiers = laid ids (form a.i); names = laid names a.n }) (sym x) (sym y)
-            ∙ ap₂ (λ p q. record { outcome = done r b; identifiers = p; names = q }) (sym (g.0 ∙ ap (λ z. laid ids (form z)) (words_same a.i fits))) (sym g.1))
+            ∙ ap₂ (λ p q. record { outcome = done p q; identifiers = laid ids (form a.i); names = laid names a.n }) (sym z) (sym y)
+            ∙ ap₂ (λ p q. record { outcome = done x.rows x.bytes; identifiers = p; names = q }) (sym (g.0 ∙ ap (λ z. laid ids (form z)) (words_same a.i fits))) (sym g.1))
 
 -- All that a sheet says is in the buffers.
 abbrev pub AllFilled : (List ℕ → List ℕ) → List ℕ → List ℕ → List ℕ → List ℕ → List ℕ → Type 0
@@ -167,7 +191,7 @@ pub record Filled (form : List ℕ → List ℕ) (t ids₀ names₀ ids names : 
   pub ids_are : ids ≡ laid ids₀ (form (words numbers))
   pub names_are : names ≡ laid names₀ said
 
-module _ (form : List ℕ → List ℕ) (none : form [] ≡ []) (join : (x y : List ℕ) → form (x ++ y) ≡ form x ++ form y) (t ids₀ names₀ : List ℕ) where
+module _ (form : List ℕ → List ℕ) (each : ℕ) (laws : Forms form each) (t ids₀ names₀ : List ℕ) where
   pub filled_none : Filled form t ids₀ names₀ ids₀ names₀ 0 0 0
   unfolding reading onward fresh words
   filled_none = record {
@@ -178,7 +202,7 @@ module _ (form : List ℕ → List ℕ) (none : form [] ≡ []) (join : (x y : L
     within = omega arith;
     here = refl;
     count = refl;
-    ids_are = laid_none ids₀ ∙ ap (laid ids₀) (sym none);
+    ids_are = laid_none ids₀ ∙ ap (laid ids₀) (sym laws.none);
     names_are = laid_none names₀;
   }
 
@@ -210,13 +234,22 @@ module _ (form : List ℕ → List ℕ) (none : form [] ≡ []) (join : (x y : L
           let c = f.count in
           omega arith
 
+      -- and room
+      pub row_room : each * (row + 1) ≤ length ids₀
+      row_room =
+          let r = mul-le-mul_left each row_there in
+          let s = laws.size room.1 in
+          let h = room.3 in
+          omega arith
+
       word_kept : min p.value 4294967295 ≡ word r.number
       word_kept = let e = r.kept in omega arith
 
       -- the number is written behind those before
-      pub filled_row : (pos : ℕ) → pos ≡ length (form (words f.numbers)) → (ids' : List ℕ) → ids' ≡ splice ids pos (form (min p.value 4294967295 ∷ [])) → Filled form t ids₀ names₀ ids' names' (row + 1) p.at p.end
+      pub filled_row : (ids' : List ℕ) → ids' ≡ splice ids (each * row) (form (min p.value 4294967295 ∷ [])) → Filled form t ids₀ names₀ ids' names' (row + 1) p.at p.end
       unfolding words
-      filled_row pos here ids' e =
+      filled_row ids' e =
+          let here : each * row ≡ length (form (words f.numbers)) = ap (λ x. each * x) (f.count ∙ sym (length_words f.numbers)) ∙ sym (laws.size (words f.numbers)) in
           let b = r.behind in
           let h = f.here in
           let l = length-append f.said (r.name ++ (0 ∷ [])) in
@@ -232,9 +265,9 @@ module _ (form : List ℕ → List ℕ) (none : form [] ≡ []) (join : (x y : L
             here = omega arith;
             count = omega arith;
             ids_are =
-                e ∙ ap₂ (λ x v. splice x pos (form (v ∷ []))) f.ids_are word_kept
-                ∙ laid_more ids₀ (form (words f.numbers)) (form (word r.number ∷ [])) pos here
-                ∙ ap (laid ids₀) (sym (ap form (words_append f.numbers (r.number ∷ [])) ∙ join (words f.numbers) (word r.number ∷ [])));
+                e ∙ ap₂ (λ x v. splice x (each * row) (form (v ∷ []))) f.ids_are word_kept
+                ∙ laid_more ids₀ (form (words f.numbers)) (form (word r.number ∷ [])) (each * row) here
+                ∙ ap (laid ids₀) (sym (ap form (words_append f.numbers (r.number ∷ [])) ∙ laws.join (words f.numbers) (word r.number ∷ [])));
             names_are = r.written ∙ ap (λ x. splice x at (r.name ++ (0 ∷ []))) f.names_are ∙ laid_more names₀ f.said (r.name ++ (0 ∷ [])) at f.here;
           }
 

@@ -1,5 +1,5 @@
 -- What the functions that judge a sheet find at a place of the text, and why: a name, a number, the end of a row, a row. Assumes nothing.
-use Rattle.std.specs.Prelude.{◌≡◌, ◌≢◌, Bool, ℕ, ◌+◌, ◌-◌, ◌≤◌, ◌<◌, min, get_or}
+use Rattle.std.specs.Prelude.{◌≡◌, ◌≢◌, Option, Some, None, Bool, ℕ, ◌+◌, ◌-◌, ◌≤◌, ◌<◌, min, get_or}
 use Rattle.std.proofs.Math.Path.{refl, ap, sym}
 use Rattle.std.proofs.Common.{◌∙◌, subst, length-append}
 use Rattle.std.proofs.Math.Bool.{true, false}
@@ -11,20 +11,14 @@ use Rattle.std.proofs.Math.ListN.{length}
 use Rattle.lists.specs.Basics.{every}
 use Rattle.lists.specs.Merge.{every_append}
 use Rattle.sheet_reading.specs.declared.Name.{Name}
-use Rattle.sheet_reading.specs.declared.Name.TheVariants.{None as NoName, Read as NameAt}
-use Rattle.sheet_reading.specs.declared.Number.{Number as NumberRead}
-use Rattle.sheet_reading.specs.declared.Number.TheVariants.{None as NoNumber, Read as NumberAt}
-use Rattle.sheet_reading.specs.declared.RowEnd.{RowEnd}
-use Rattle.sheet_reading.specs.declared.RowEnd.TheVariants.{None as NoEnd, At as EndAt}
-use Rattle.sheet_reading.specs.declared.RowRead.{RowRead}
-use Rattle.sheet_reading.specs.declared.RowRead.TheVariants.{None as NoRow, Read as RowAt}
+use Rattle.sheet_reading.specs.declared.Row.{Row}
 use Rattle.sheet_reading.specs.declared.Run.{Run}
 use Rattle.sheets.specs.Grammar.{quote, comma, cr, lf, is_digit, worth}
 use Rattle.sheet_reading.specs.Kinds.{plain_byte, quoted_byte}
 use Rattle.sheets.specs.declared.Place.{Place}
 use Rattle.sheets.specs.declared.Place.TheVariants.{Start, Plain, Opened, Quoted, Closed, Number, Digits, NumberOpened, NumberQuoted, NumberClosed, Return}
 use Rattle.sheets.specs.Reader.{nothing, ending, ended_as}
-use Rattle.sheet_reading.specs.Runs.{between, RunTo, length_between, between_none, between_both, run_first, worth_append, worth_grows, worth_ten}
+use Rattle.sheet_reading.specs.Runs.{between, RunTo, length_between, between_none, between_both, run_first, worth_append, worth_ten}
 use Rattle.sheet_reading.specs.Nexts
 use Rattle.sheet_reading.specs.Onward.{onward, onward_end, onward_wrong, onward_opened, onward_closed, onward_quoted, onward_number, onward_number_opened, onward_number_closed, onward_return, onward_start, onward_as, plain_over, quoted_over, digits_on, number_quoted_on}
 
@@ -44,9 +38,9 @@ pub record NameSaid (t : List ℕ) (p : Place) (i end bytes : ℕ) : Type 0 wher
   pub within : end ≤ length t
   pub leads : (n c : List ℕ) (v : ℕ) → onward t p n c v i ≡ onward t Number (n ++ (name ++ (0 ∷ []))) c 0 end
 
-unfoldable pub NameIs : List ℕ → Place → ℕ → Name → Type 0
-NameIs t p i NoName = Silent t p i
-NameIs t p i (NameAt end bytes) = NameSaid t p i end bytes
+unfoldable pub NameIs : List ℕ → Place → ℕ → Option Name → Type 0
+NameIs t p i None = Silent t p i
+NameIs t p i (Some x) = NameSaid t p i x.end x.bytes
 
 -- A number: the reader behind it stands as behind a quoted one.
 pub record NumberSaid (t : List ℕ) (p : Place) (i end value : ℕ) : Type 0 where
@@ -56,9 +50,9 @@ pub record NumberSaid (t : List ℕ) (p : Place) (i end value : ℕ) : Type 0 wh
   pub within : end ≤ length t
   pub leads : (n c : List ℕ) → onward t p n c 0 i ≡ onward t NumberClosed n c number end
 
-unfoldable pub NumberIs : List ℕ → Place → ℕ → NumberRead → Type 0
-NumberIs t p i NoNumber = (n c : List ℕ) → onward t p n c 0 i ≡ nothing
-NumberIs t p i (NumberAt end value) = NumberSaid t p i end value
+unfoldable pub NumberIs : List ℕ → Place → ℕ → Option Run → Type 0
+NumberIs t p i None = (n c : List ℕ) → onward t p n c 0 i ≡ nothing
+NumberIs t p i (Some x) = NumberSaid t p i x.end x.value
 
 -- The end of a row: the number is told, and the next row begins.
 pub record EndSaid (t : List ℕ) (i end : ℕ) : Type 0 where
@@ -66,9 +60,9 @@ pub record EndSaid (t : List ℕ) (i end : ℕ) : Type 0 where
   pub within : end ≤ length t
   pub leads : (n c : List ℕ) (v : ℕ) → onward t NumberClosed n c v i ≡ onward t Start n (c ++ (v ∷ [])) v end
 
-unfoldable pub EndIs : List ℕ → ℕ → RowEnd → Type 0
-EndIs t i NoEnd = Silent t NumberClosed i
-EndIs t i (EndAt end) = EndSaid t i end
+unfoldable pub EndIs : List ℕ → ℕ → Option ℕ → Type 0
+EndIs t i None = Silent t NumberClosed i
+EndIs t i (Some end) = EndSaid t i end
 
 -- A row.
 pub record RowSaid (t : List ℕ) (i end bytes value : ℕ) : Type 0 where
@@ -80,9 +74,9 @@ pub record RowSaid (t : List ℕ) (i end bytes value : ℕ) : Type 0 where
   pub within : end ≤ length t
   pub leads : (n c : List ℕ) (v : ℕ) → onward t Start n c v i ≡ onward t Start (n ++ (name ++ (0 ∷ []))) (c ++ (number ∷ [])) number end
 
-unfoldable pub RowIs : List ℕ → ℕ → RowRead → Type 0
-RowIs t i NoRow = Silent t Start i
-RowIs t i (RowAt end bytes value) = RowSaid t i end bytes value
+unfoldable pub RowIs : List ℕ → ℕ → Option Row → Type 0
+RowIs t i None = Silent t Start i
+RowIs t i (Some x) = RowSaid t i x.end x.bytes x.value
 
 -- Digits.
 pub record DigitsSaid (t : List ℕ) (i end value : ℕ) : Type 0 where
@@ -119,22 +113,16 @@ module _ (t : List ℕ) where
       let g = worth_ten (between j e t) v (omega arith) in
       omega arith
 
-  pub large_here : (j e v : ℕ) → 4294967295 < v → 4294967296 ≡ capped (worth v (between j e t))
-  large_here j e v h = let g = worth_grows (between j e t) v in omega arith
-
-  pub large_fits : (j e v : ℕ) → e ≡ j → v ≤ 4294967295 → v ≡ capped (worth v (between j e t))
+  pub large_none : (j e v : ℕ) → e ≡ j → capped v ≡ capped (worth v (between j e t))
   unfolding worth
-  large_fits j e v q h =
-      let z : between j e t ≡ [] = ap (λ x. between j x t) q ∙ between_none j t in
-      let w : worth v (between j e t) ≡ v = ap (worth v) z in
-      omega arith
+  large_none j e v q = let z : between j e t ≡ [] = ap (λ x. between j x t) q ∙ between_none j t in sym (ap (λ l. capped (worth v l)) z)
 
   -- an unquoted name
   module _ (i e : ℕ) (h : i < length t) (k : get_or t i 0 ≡ quote → ⊥) (r : RunTo plain_byte t i e) where
     plain_name : (n c : List ℕ) (v : ℕ) → onward t Start n c v i ≡ onward t Plain (n ++ between i e t) c v e
     plain_name n c v = onward_as t Start n c v i h Plain (Nexts.start_plain (get_or t i 0) k) ∙ plain_over t i e r.from r.passed n c v
 
-    pub name_read : e < length t → get_or t e 0 ≡ comma → NameIs t Start i (NameAt (e + 1) (e + 1 - i))
+    pub name_read : e < length t → get_or t e 0 ≡ comma → NameIs t Start i (Some (record { end = e + 1; bytes = e + 1 - i }))
     unfolding NameIs
     name_read l q = let f = r.from in record {
       name = between i e t;
@@ -144,11 +132,11 @@ module _ (t : List ℕ) where
       leads = λ n c v. plain_name n c v ∙ onward_number t Plain (n ++ between i e t) c v e l (Nexts.plain_comma (get_or t e 0) q) ∙ ap (λ x. onward t Number x c 0 (e + 1)) (append_assoc n (between i e t) (0 ∷ []));
     }
 
-    pub name_ends : e ≡ length t → NameIs t Start i NoName
+    pub name_ends : e ≡ length t → NameIs t Start i None
     unfolding NameIs ended_as ending
     name_ends q n c v = plain_name n c v ∙ onward_end t Plain (n ++ between i e t) c v e (omega arith)
 
-    pub name_stops : e < length t → (get_or t e 0 ≡ comma → ⊥) → NameIs t Start i NoName
+    pub name_stops : e < length t → (get_or t e 0 ≡ comma → ⊥) → NameIs t Start i None
     unfolding NameIs
     name_stops l q n c v = plain_name n c v ∙ onward_wrong t Plain (n ++ between i e t) c v e l (Nexts.plain_wrong (get_or t e 0) (r.stopped l) q)
 
@@ -173,14 +161,14 @@ module _ (t : List ℕ) where
   }
 
   module _ (i j d : ℕ) (q : Quoting t i j d) where
-    pub quoting_stops : j < length t → (get_or t j 0 ≡ quote → ⊥) → NameIs t Quoted i NoName
+    pub quoting_stops : j < length t → (get_or t j 0 ≡ quote → ⊥) → NameIs t Quoted i None
     unfolding NameIs
     quoting_stops l k n c v = q.leads n c v ∙ onward_wrong t Quoted (n ++ q.name) c v j l (Nexts.quoted_wrong (get_or t j 0) (q.stopped l) k)
 
     at_quote : j < length t → get_or t j 0 ≡ quote → (n c : List ℕ) (v : ℕ) → onward t Quoted n c v i ≡ onward t Closed (n ++ q.name) c v (j + 1)
     at_quote l e n c v = q.leads n c v ∙ onward_closed t Quoted (n ++ q.name) c v j l (Nexts.quoted_quote (get_or t j 0) e)
 
-    pub quoting_ends : length t ≤ j + 1 → NameIs t Quoted i NoName
+    pub quoting_ends : length t ≤ j + 1 → NameIs t Quoted i None
     unfolding NameIs ended_as ending
     quoting_ends h n c v = go (nat_lt j (length t)) refl
       where
@@ -193,7 +181,7 @@ module _ (t : List ℕ) where
         go false e = q.leads n c v ∙ onward_end t Quoted (n ++ q.name) c v j (ltb-false _ _ e)
 
     module _ (l : j + 1 < length t) (e : get_or t j 0 ≡ quote) where
-      pub quoting_read : get_or t (j + 1) 0 ≡ comma → NameIs t Quoted i (NameAt (j + 2) (j + 1 - i - d))
+      pub quoting_read : get_or t (j + 1) 0 ≡ comma → NameIs t Quoted i (Some (record { end = j + 2; bytes = j + 1 - i - d }))
       unfolding NameIs
       quoting_read k = let f = q.from in let s = q.size in record {
         name = q.name;
@@ -204,7 +192,7 @@ module _ (t : List ℕ) where
             ∙ ap (λ x. onward t Number x c 0 (j + 1 + 1)) (append_assoc n q.name (0 ∷ [])) ∙ ap (λ x. onward t Number (n ++ (q.name ++ (0 ∷ []))) c 0 x) (let z : j + 1 + 1 ≡ j + 2 = omega arith in z);
       }
 
-      pub quoting_shut : (get_or t (j + 1) 0 ≡ comma → ⊥) → (get_or t (j + 1) 0 ≡ quote → ⊥) → NameIs t Quoted i NoName
+      pub quoting_shut : (get_or t (j + 1) 0 ≡ comma → ⊥) → (get_or t (j + 1) 0 ≡ quote → ⊥) → NameIs t Quoted i None
       unfolding NameIs
       quoting_shut k m n c v = at_quote (omega arith) e n c v ∙ onward_wrong t Closed (n ++ q.name) c v (j + 1) l (Nexts.closed_wrong (get_or t (j + 1) 0) m k)
 
@@ -239,10 +227,10 @@ module _ (t : List ℕ) where
         go true k = onward_as t Opened n c v (i + 1) (ltb-true _ _ k) Quoted (Nexts.opened_quoted (get_or t (i + 1) 0))
         go false k = onward_end t Opened n c v (i + 1) (ltb-false _ _ k) ∙ sym (onward_end t Quoted n c v (i + 1) (ltb-false _ _ k))
 
-    pub name_opened : (r : Name) → NameIs t Quoted (i + 1) r → NameIs t Start i r
+    pub name_opened : (r : Option Name) → NameIs t Quoted (i + 1) r → NameIs t Start i r
     unfolding NameIs
-    name_opened NoName s = λ n c v. opened_name n c v ∙ s n c v
-    name_opened (NameAt end bytes) s = let a = s.ahead in record {
+    name_opened None s = λ n c v. opened_name n c v ∙ s n c v
+    name_opened (Some x) s = let a = s.ahead in record {
       name = s.name;
       size = s.size;
       ahead = omega arith;
@@ -258,7 +246,7 @@ module _ (t : List ℕ) where
     abbrev worthy : ℕ
     worthy = worth 0 (between i e t)
 
-    pub number_read : i < e → NumberIs t Number i (NumberAt e v)
+    pub number_read : i < e → NumberIs t Number i (Some (record { end = e; value = v }))
     unfolding NumberIs ended_as ending
     number_read h = let w = digits.within in record {
       number = worthy;
@@ -273,7 +261,7 @@ module _ (t : List ℕ) where
         go n c true k = onward_as t Digits n c worthy e (ltb-true _ _ k) NumberClosed (Nexts.digits_end (get_or t e 0) (digits.stopped (ltb-true _ _ k)))
         go n c false k = onward_end t Digits n c worthy e (ltb-false _ _ k) ∙ sym (onward_end t NumberClosed n c worthy e (ltb-false _ _ k))
 
-    pub number_none : i < length t → (get_or t i 0 ≡ quote → ⊥) → e ≡ i → NumberIs t Number i NoNumber
+    pub number_none : i < length t → (get_or t i 0 ≡ quote → ⊥) → e ≡ i → NumberIs t Number i None
     unfolding NumberIs
     number_none h k q n c = onward_wrong t Number n c 0 i h (Nexts.number_wrong (get_or t i 0) (subst (λ x. is_digit (get_or t x 0) ≡ false) q (digits.stopped (omega arith))) k)
 
@@ -283,7 +271,7 @@ module _ (t : List ℕ) where
         let w = digits.within in
         onward_as t NumberOpened n c 0 i (omega arith) NumberQuoted (Nexts.opened_digits (get_or t i 0) (run_first is_digit t i e digits h)) ∙ number_quoted_on t i e digits.from digits.passed n c 0
 
-    pub quoted_number_read : i < e → e < length t → get_or t e 0 ≡ quote → NumberIs t NumberOpened i (NumberAt (e + 1) v)
+    pub quoted_number_read : i < e → e < length t → get_or t e 0 ≡ quote → NumberIs t NumberOpened i (Some (record { end = e + 1; value = v }))
     unfolding NumberIs
     quoted_number_read h l k = record {
       number = worthy;
@@ -293,7 +281,7 @@ module _ (t : List ℕ) where
       leads = λ n c. within_quotes h n c ∙ onward_number_closed t NumberQuoted n c worthy e l (Nexts.number_quoted_quote (get_or t e 0) k);
     }
 
-    pub quoted_number_empty : e ≡ i → NumberIs t NumberOpened i NoNumber
+    pub quoted_number_empty : e ≡ i → NumberIs t NumberOpened i None
     unfolding NumberIs ended_as ending
     quoted_number_empty q n c = go (nat_lt i (length t)) refl
       where
@@ -301,22 +289,22 @@ module _ (t : List ℕ) where
         go true k = let z = ltb-true _ _ k in onward_wrong t NumberOpened n c 0 i z (Nexts.opened_wrong (get_or t i 0) (subst (λ x. is_digit (get_or t x 0) ≡ false) q (digits.stopped (omega arith))))
         go false k = onward_end t NumberOpened n c 0 i (ltb-false _ _ k)
 
-    pub quoted_number_ends : i < e → e ≡ length t → NumberIs t NumberOpened i NoNumber
+    pub quoted_number_ends : i < e → e ≡ length t → NumberIs t NumberOpened i None
     unfolding NumberIs ended_as ending
     quoted_number_ends h q n c = within_quotes h n c ∙ onward_end t NumberQuoted n c worthy e (omega arith)
 
-    pub quoted_number_stops : i < e → e < length t → (get_or t e 0 ≡ quote → ⊥) → NumberIs t NumberOpened i NoNumber
+    pub quoted_number_stops : i < e → e < length t → (get_or t e 0 ≡ quote → ⊥) → NumberIs t NumberOpened i None
     unfolding NumberIs
     quoted_number_stops h l k n c = within_quotes h n c ∙ onward_wrong t NumberQuoted n c worthy e l (Nexts.number_quoted_wrong (get_or t e 0) (digits.stopped l) k)
 
-  pub number_ends : (i : ℕ) → i ≡ length t → NumberIs t Number i NoNumber
+  pub number_ends : (i : ℕ) → i ≡ length t → NumberIs t Number i None
   unfolding NumberIs ended_as ending
   number_ends i q n c = onward_end t Number n c 0 i (omega arith)
 
-  pub number_opened : (i : ℕ) → i < length t → get_or t i 0 ≡ quote → (r : NumberRead) → NumberIs t NumberOpened (i + 1) r → NumberIs t Number i r
+  pub number_opened : (i : ℕ) → i < length t → get_or t i 0 ≡ quote → (r : Option Run) → NumberIs t NumberOpened (i + 1) r → NumberIs t Number i r
   unfolding NumberIs
-  number_opened i h e NoNumber s = λ n c. onward_number_opened t Number n c 0 i h (Nexts.number_quote (get_or t i 0) e) ∙ s n c
-  number_opened i h e (NumberAt end v) s = let a = s.ahead in record {
+  number_opened i h e None s = λ n c. onward_number_opened t Number n c 0 i h (Nexts.number_quote (get_or t i 0) e) ∙ s n c
+  number_opened i h e (Some x) s = let a = s.ahead in record {
     number = s.number;
     kept = s.kept;
     ahead = omega arith;
@@ -325,7 +313,7 @@ module _ (t : List ℕ) where
   }
 
   -- the end of a row
-  pub end_text : (i : ℕ) → i ≡ length t → EndIs t i (EndAt i)
+  pub end_text : (i : ℕ) → i ≡ length t → EndIs t i (Some i)
   unfolding EndIs ended_as ending
   end_text i q = record {
     ahead = omega arith;
@@ -333,7 +321,7 @@ module _ (t : List ℕ) where
     leads = λ n c v. onward_end t NumberClosed n c v i (omega arith) ∙ sym (onward_end t Start n (c ++ (v ∷ [])) v i (omega arith));
   }
 
-  pub end_stops : (i : ℕ) → i < length t → (get_or t i 0 ≡ cr → ⊥) → EndIs t i NoEnd
+  pub end_stops : (i : ℕ) → i < length t → (get_or t i 0 ≡ cr → ⊥) → EndIs t i None
   unfolding EndIs
   end_stops i h k n c v = onward_wrong t NumberClosed n c v i h (Nexts.number_closed_wrong (get_or t i 0) k)
 
@@ -341,15 +329,15 @@ module _ (t : List ℕ) where
     at_cr : (n c : List ℕ) (v : ℕ) → onward t NumberClosed n c v i ≡ onward t Return n (c ++ (v ∷ [])) v (i + 1)
     at_cr n c v = onward_return t NumberClosed n c v i h (Nexts.number_closed_cr (get_or t i 0) e)
 
-    pub end_cut : i + 1 ≡ length t → EndIs t i NoEnd
+    pub end_cut : i + 1 ≡ length t → EndIs t i None
     unfolding EndIs ended_as ending
     end_cut q n c v = at_cr n c v ∙ onward_end t Return n (c ++ (v ∷ [])) v (i + 1) (omega arith)
 
-    pub end_bare : i + 1 < length t → (get_or t (i + 1) 0 ≡ lf → ⊥) → EndIs t i NoEnd
+    pub end_bare : i + 1 < length t → (get_or t (i + 1) 0 ≡ lf → ⊥) → EndIs t i None
     unfolding EndIs
     end_bare l k n c v = at_cr n c v ∙ onward_wrong t Return n (c ++ (v ∷ [])) v (i + 1) l (Nexts.return_wrong (get_or t (i + 1) 0) k)
 
-    pub end_row : i + 1 < length t → get_or t (i + 1) 0 ≡ lf → EndIs t i (EndAt (i + 2))
+    pub end_row : i + 1 < length t → get_or t (i + 1) 0 ≡ lf → EndIs t i (Some (i + 2))
     unfolding EndIs
     end_row l k = record {
       ahead = omega arith;
@@ -358,25 +346,33 @@ module _ (t : List ℕ) where
           ∙ ap (λ x. onward t Start n (c ++ (v ∷ [])) v x) (let z : i + 1 + 1 ≡ i + 2 = omega arith in z);
     }
 
+  -- one byte is left
+  pub end_short : (i : ℕ) → i + 1 ≡ length t → EndIs t i None
+  end_short i q = go (nat_eq (get_or t i 0) cr) refl
+    where
+      go : (b : Bool) → nat_eq (get_or t i 0) cr ≡ b → EndIs t i None
+      go true e = end_cut i (omega arith) (eqb-true _ _ e) q
+      go false e = end_stops i (omega arith) (eqb-false _ _ e)
+
   -- a row, of its parts
   module _ (i : ℕ) where
-    pub row_no_name : NameIs t Start i NoName → RowIs t i NoRow
+    pub row_no_name : NameIs t Start i None → RowIs t i None
     unfolding NameIs RowIs
     row_no_name s = s
 
-    module _ (j bytes : ℕ) (a : NameIs t Start i (NameAt j bytes)) where
-      pub row_no_number : NumberIs t Number j NoNumber → RowIs t i NoRow
+    module _ (x : Name) (a : NameIs t Start i (Some x)) where
+      pub row_no_number : NumberIs t Number x.end None → RowIs t i None
       unfolding NameIs NumberIs RowIs
       row_no_number s n c v = a.leads n c v ∙ s (n ++ (a.name ++ (0 ∷ []))) c
 
-      module _ (k value : ℕ) (b : NumberIs t Number j (NumberAt k value)) where
-        pub row_no_end : EndIs t k NoEnd → RowIs t i NoRow
+      module _ (y : Run) (b : NumberIs t Number x.end (Some y)) where
+        pub row_no_end : EndIs t y.end None → RowIs t i None
         unfolding NameIs NumberIs EndIs RowIs
         row_no_end s n c v = a.leads n c v ∙ b.leads (n ++ (a.name ++ (0 ∷ []))) c ∙ s (n ++ (a.name ++ (0 ∷ []))) c b.number
 
-        pub row_read : (end : ℕ) → EndIs t k (EndAt end) → RowIs t i (RowAt end bytes value)
+        pub row_read : (end : ℕ) → EndIs t y.end (Some end) → RowIs t i (Some (record { end = end; bytes = x.bytes; value = y.value }))
         unfolding NameIs NumberIs EndIs RowIs
-        row_read end s = let x = a.ahead in let y = b.ahead in let z = s.ahead in record {
+        row_read end s = let u = a.ahead in let v = b.ahead in let w = s.ahead in record {
           name = a.name;
           number = b.number;
           size = a.size;

@@ -4,5 +4,5 @@ pub mod Nexts
 pub mod Onward
 pub mod Judged
 pub mod Put
-pub mod Filled
 pub mod Carried
+pub mod Filled

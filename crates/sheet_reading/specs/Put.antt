@@ -1,5 +1,5 @@
 -- What the functions that write a name find, in a text that is known to be a sheet, and why there is room. Assumes nothing.
-use Rattle.std.specs.Prelude.{◌≡◌, ◌≢◌, Bool, ℕ, ◌+◌, ◌-◌, ◌≤◌, ◌<◌, get_or}
+use Rattle.std.specs.Prelude.{◌≡◌, Option, Some, None, IsSome, Bool, ℕ, ◌+◌, ◌-◌, ◌≤◌, ◌<◌, get_or}
 use Rattle.std.proofs.Math.Path.{refl, ap, sym}
 use Rattle.std.proofs.Common.{◌∙◌}
 use Rattle.std.proofs.Math.Bool.{true, false}
@@ -7,26 +7,27 @@ use mathlib.Core.List.{List, [], ◌∷◌, ◌++◌, append_assoc, append-nil}
 use native.Mathlib.Omega.{arith}
 use borrow.Author.Tests.{ltb-true, ltb-false, eqb-true, eqb-false}
 use Rattle.std.proofs.Common.{nat_lt, nat_eq}
-use Rattle.std.proofs.Math.ListN.{length, set, length-append}
+use Rattle.std.proofs.Math.ListN.{length, set, length-append, take, drop}
+use Rattle.std.proofs.Common.{drop-drop}
+use borrow.Rule.Slice.PartMut.{put_mid}
 use Rattle.lists.specs.Basics.{when◌then◌else◌, every}
 use Rattle.lists.specs.Splice.{splice}
 use Rattle.sheet_reading.specs.declared.Put.{Put}
 use Rattle.sheet_reading.specs.declared.RowPut.{RowPut}
-use Rattle.sheet_reading.specs.declared.Number.TheVariants.{None as NoNumber, Read as NumberAt}
-use Rattle.sheet_reading.specs.declared.RowEnd.TheVariants.{None as NoEnd, At as EndAt}
+use Rattle.sheet_reading.specs.declared.Run.{Run}
 use Rattle.sheets.specs.Grammar.{quote, comma}
 use Rattle.sheet_reading.specs.Kinds.{plain_byte, quoted_byte}
 use Rattle.sheets.specs.declared.Place.{Place}
-use Rattle.sheets.specs.declared.Place.TheVariants.{Start, Plain, Quoted, Closed, Number, NumberOpened, Wrong}
+use Rattle.sheets.specs.declared.Place.TheVariants.{Start, Plain, Quoted, Closed, Number, Wrong}
 use Rattle.sheets.specs.declared.Effect.TheVariants.{Letter}
 use Rattle.sheets.specs.declared.Ending.TheVariants.{Within}
-use Rattle.sheets.specs.Reader.{next, effect, standing, nothing, lists, ending, ended_as}
+use Rattle.sheets.specs.Reader.{next, effect, standing, lists, ending, ended_as}
 use Rattle.sheets.proofs.Sound.{silent}
 use Rattle.sheet_reading.specs.Runs.{between, between_none, between_more, length_between}
 use Rattle.sheet_reading.specs.Nexts
 use Rattle.sheet_reading.specs.Onward.{onward, onward_end, onward_wrong, onward_closed, onward_letter, onward_quoted, onward_number, onward_as, names_over, plain_stays, quoted_stays, plain_over, quoted_over, onward_grows}
 use Rattle.sheets.specs.Laying.{splice_none, splice_one, splice_twice, length_splice}
-use Rattle.sheet_reading.specs.Judged.{capped, NumberIs, DigitsSaid, EndIs, opened_name, number_read, number_none, number_opened, quoted_number_read, quoted_number_empty, quoted_number_ends, quoted_number_stops}
+use Rattle.sheet_reading.specs.Judged.{capped, NumberIs, EndIs, opened_name}
 
 -- A reader at this place of the text that has said names of `at` bytes, and reads on to the end: all names have this room.
 pub record Readable (t : List ℕ) (p : Place) (i at room : ℕ) : Type 0 where
@@ -128,6 +129,12 @@ copy_more w u t at i j h l r e =
     ∙ ap (λ n. splice (splice w at (between i j t)) (at + n) (get_or t j 0 ∷ [])) (sym a)
     ∙ splice_twice w (between i j t) (get_or t j 0 ∷ []) at (omega arith)
     ∙ ap (splice w at) (sym (between_more i j t h l))
+
+-- a part of a buffer written over
+pub mid_splice : (w ys : List ℕ) (at k : ℕ) → k ≡ length ys → put_mid at k w ys ≡ splice w at ys
+unfolding splice
+mid_splice w ys at k q =
+    sym (append_assoc (take at w) ys (drop k (drop at w))) ∙ ap (λ z. take at w ++ ys ++ z) (drop-drop k at w ∙ ap (λ x. drop (at + x) w) q)
 
 -- A name written with its zero byte, and what is said from the number on.
 pub record NamePut (t : List ℕ) (p : Place) (i : ℕ) (names₀ : List ℕ) (at : ℕ) (names : List ℕ) (r : Put) : Type 0 where
@@ -434,12 +441,13 @@ module _ (t : List ℕ) (i at room : ℕ) where
     pub number_there : NumberThere t p.end
     number_there = (so, r.numbers, r.all_names, r.all_numbers, numbered)
 
-    module _ (k value : ℕ) (x : NumberIs t Number p.end (NumberAt k value)) where
-      pub end_there : EndIs t k NoEnd → ⊥
+    module _ (d : Run) (x : NumberIs t Number p.end (Some d)) where
+      pub end_said : (e : Option ℕ) → EndIs t d.end e → IsSome e
       unfolding NumberIs EndIs
-      end_there y = silent r.all_names r.all_numbers (sym (x.leads so r.numbers ∙ y so r.numbers x.number) ∙ numbered)
+      end_said None y = absurd (silent r.all_names r.all_numbers (sym (x.leads so r.numbers ∙ y so r.numbers x.number) ∙ numbered))
+      end_said (Some end) y = refl
 
-      pub row_put_lem : (end : ℕ) → EndIs t k (EndAt end) → RowPutIs t i names₀ at names (record { end = end; at = p.at; value = value })
+      pub row_put_lem : (end : ℕ) → EndIs t d.end (Some end) → RowPutIs t i names₀ at names (record { end = end; at = p.at; value = d.value })
       unfolding NumberIs EndIs
       row_put_lem end y = let a = s.ahead in let b = x.ahead in let c = y.ahead in record {
         name = s.name;
@@ -453,45 +461,7 @@ module _ (t : List ℕ) (i at room : ℕ) where
       }
 
 -- the number is there
-module _ (t : List ℕ) (i : ℕ) (r : NumberThere t i) where
-  never : {A : Type 0} → ((n c : List ℕ) → onward t Number n c 0 i ≡ nothing) → A
-  never f = absurd (silent r.2 r.3 (sym (f r.0 r.1) ∙ r.4))
-
-  pub number_goes : i < length t
-  unfolding ended_as ending
-  number_goes = go (nat_lt i (length t)) refl
-    where
-      go : (b : Bool) → nat_lt i (length t) ≡ b → i < length t
-      go true e = ltb-true _ _ e
-      go false e = never (λ n c. onward_end t Number n c 0 i (ltb-false _ _ e))
-
-  pub number_plain : (e v : ℕ) → (get_or t i 0 ≡ quote → ⊥) → DigitsSaid t i e v → NumberIs t Number i (NumberAt e v)
-  unfolding NumberIs
-  number_plain e v k d = go (nat_eq e i) refl
-    where
-      go : (b : Bool) → nat_eq e i ≡ b → NumberIs t Number i (NumberAt e v)
-      go true q = never (number_none t i e v d number_goes k (eqb-true _ _ q))
-      go false q = let f = d.digits.from in let z : e ≢ i = eqb-false _ _ q in number_read t i e v d (omega arith)
-
-  module _ (e v : ℕ) (k : get_or t i 0 ≡ quote) (d : DigitsSaid t (i + 1) e v) where
-    unquotable : NumberIs t NumberOpened (i + 1) NoNumber → NumberIs t Number i (NumberAt (e + 1) v)
-    unfolding NumberIs
-    unquotable x = never (number_opened t i number_goes k NoNumber x)
-
-    pub number_quoted_lem : NumberIs t Number i (NumberAt (e + 1) v)
-    number_quoted_lem = go (nat_eq e (i + 1)) refl
-      where
-        w : e ≤ length t
-        w = d.digits.within
-
-        last : i + 1 < e → e < length t → (b : Bool) → nat_eq (get_or t e 0) quote ≡ b → NumberIs t Number i (NumberAt (e + 1) v)
-        last h l true q = number_opened t i number_goes k (NumberAt (e + 1) v) (quoted_number_read t (i + 1) e v d h l (eqb-true _ _ q))
-        last h l false q = unquotable (quoted_number_stops t (i + 1) e v d h l (eqb-false _ _ q))
-
-        more : i + 1 < e → (b : Bool) → nat_lt e (length t) ≡ b → NumberIs t Number i (NumberAt (e + 1) v)
-        more h true q = last h (ltb-true _ _ q) (nat_eq (get_or t e 0) quote) refl
-        more h false q = let z : length t ≤ e = ltb-false _ _ q in let y : e ≤ length t = w in unquotable (quoted_number_ends t (i + 1) e v d h (omega arith))
-
-        go : (b : Bool) → nat_eq e (i + 1) ≡ b → NumberIs t Number i (NumberAt (e + 1) v)
-        go true q = unquotable (quoted_number_empty t (i + 1) e v d (eqb-true _ _ q))
-        go false q = let f = d.digits.from in let z : e ≢ i + 1 = eqb-false _ _ q in more (omega arith) (nat_lt e (length t)) refl
+pub number_said : (t : List ℕ) (i : ℕ) → NumberThere t i → (r : Option Run) → NumberIs t Number i r → IsSome r
+unfolding NumberIs
+number_said t i there None x = absurd (silent there.2 there.3 (sym (x there.0 there.1) ∙ there.4))
+number_said t i there (Some d) x = refl

@@ -1,6 +1,8 @@
 -- Runs: bytes one after the other that pass a test, up to the first that does not. Assumes nothing.
 use Rattle.std.specs.Prelude.{◌≡◌, refl, Bool, true, false, List, [], ◌∷◌, ◌++◌, ℕ, suc, ◌+◌, ◌-◌, ◌*◌, ◌≤◌, ◌<◌, length, take, drop, get_or}
-use Rattle.std.proofs.Common.{ap, sym, ◌∙◌, arith, length-drop, take-append-drop, take-suc, take-add, length-take-le, get_or-drop, drop-drop}
+use Rattle.std.proofs.lemmas.Slice.{between_to_end}
+use Rattle.std.proofs.lemmas.List.{get_or_default}
+use Rattle.std.proofs.Common.{nat_lt, ltb-true, add-zero, ap, sym, ◌∙◌, arith, length-drop, take-append-drop, take-suc, take-add, length-take-le, get_or-drop, drop-drop}
 use Rattle.lists.specs.Basics.{every}
 use Rattle.lists.specs.Merge.{every_append}
 use Rattle.sheets.specs.Grammar.{worth}
@@ -16,6 +18,20 @@ pub record RunTo (f : ℕ → Bool) (t : List ℕ) (i j : ℕ) : Type 0 where
   pub within : j ≤ length t
   pub passed : every f (between i j t) ≡ true
   pub stopped : j < length t → f (get_or t j 0) ≡ false
+
+-- a byte that `get` found
+pub looked_up : (t : List ℕ) (i x : ℕ) → true ≡ nat_lt i (length t) → x ≡ get_or t i x → (i < length t) × (x ≡ get_or t i 0)
+looked_up t i x h e = let l = ltb-true _ _ (sym h) in (l, e ∙ get_or_default t i x 0 l)
+
+-- the rest of a text, and its first two bytes
+pub rest_first : (i : ℕ) (t : List ℕ) → get_or (between i (length t) t) 0 0 ≡ get_or t i 0
+rest_first i t = ap (λ l. get_or l 0 0) (between_to_end t i (length t) (omega arith)) ∙ get_or-drop i t 0 0 ∙ ap (λ k. get_or t k 0) (add-zero i)
+
+pub rest_second : (i : ℕ) (t : List ℕ) → get_or (between i (length t) t) 1 0 ≡ get_or t (i + 1) 0
+rest_second i t = ap (λ l. get_or l 1 0) (between_to_end t i (length t) (omega arith)) ∙ get_or-drop i t 1 0
+
+pub length_rest : (i : ℕ) (t : List ℕ) → length (between i (length t) t) ≡ length t - i
+length_rest i t = ap length (between_to_end t i (length t) (omega arith)) ∙ length-drop i t
 
 -- one byte more between two places
 pub between_none : (i : ℕ) (t : List ℕ) → between i i t ≡ []

@@ -1,26 +1,47 @@
 // The kinds of bytes that a sheet tells apart.
-ghost use Rattle.std.specs.Prelude.{◌≡◌, ◌<◌};
+ghost use Rattle.std.specs.Prelude.{◌≡◌};
 ghost use Rattle.lists.specs.Basics.{table};
-ghost use Rattle.sheet_reading.specs.Kinds.{kind_of};
+ghost use Rattle.sheet_reading.specs.Kinds.{kind_of, plain_byte, quoted_byte};
 
-// A byte as a place of that table.
-pub(crate) fn wide(b: u8) -> usize
-    ensures { (result ≡ b) × (result < 256) }
-{
-    b as usize
+// Where a byte stands for itself: in every name, in a quoted name only, or in none.
+#[derive(Clone, Copy, Debug, PartialEq, Eq)]
+pub enum Kind {
+    Plain,
+    Quoted,
+    Neither,
 }
 
-// For each byte: 2 where it ends a run of a name, quoted or not (zero byte, quote); 1 where only an unquoted one (LF, CR, comma); else 0.
-// One look into a table is what makes the runs fast: a chain of comparisons is mispredicted at each blank of a name. Whoever reads makes it once
-// and lends it, since a constant would be laid out anew at each look.
-pub(crate) fn kinds() -> [u8; 256]
-    ensures { result ≡ table 256 kind_of }
-{
-    let mut t = [0u8; 256];
-    t[0] = 2;
-    t[10] = 1;
-    t[13] = 1;
-    t[34] = 2;
-    t[44] = 1;
-    t
+// The kind of each byte. One look into a table is what makes the runs fast: a chain of comparisons is mispredicted at each blank of a name.
+// Whoever reads makes it once and lends it, since a constant would be laid out anew at each look.
+#[derive(Drop)]
+pub struct Kinds {
+    of: [Kind; 256],
+    ghost are: { of ≡ table 256 kind_of },
+}
+
+impl Kinds {
+    // Zero byte and quote end every run of a name; LF, CR and comma end one that is not quoted.
+    pub(crate) fn new() -> Kinds {
+        let mut of = [Kind::Plain; 256];
+        of[0] = Kind::Neither;
+        of[10] = Kind::Quoted;
+        of[13] = Kind::Quoted;
+        of[34] = Kind::Neither;
+        of[44] = Kind::Quoted;
+        Kinds { of }
+    }
+
+    // Does the byte stand for itself in a name without quotes?
+    pub(crate) fn is_plain(&self, b: u8) -> bool
+        ensures { result ≡ plain_byte b }
+    {
+        self.of[usize::from(b)] == Kind::Plain
+    }
+
+    // And in a quoted one?
+    pub(crate) fn is_quoted(&self, b: u8) -> bool
+        ensures { result ≡ quoted_byte b }
+    {
+        self.of[usize::from(b)] != Kind::Neither
+    }
 }

@@ -1,28 +1,29 @@
 // A row of a sheet that was judged: its name into the lent names, its number handed back. That the text is a sheet and the names are long
-// enough is known, so no byte is looked at but those that end something.
+// enough is known, so no byte of a name is looked at but for the one that ends it. Text, names and a place in each are passed on one by one: a
+// struct of them would be taken apart again in each function, since each goes on from other places.
 ghost use Rattle.std.specs.Prelude.{◌≡◌, ◌<◌, length, get_or};
 ghost use Rattle.sheets.specs.Grammar.{quote};
-ghost use Rattle.sheets.specs.declared.Place.TheVariants.{Start, Quoted, Number as NumberPlace};
-ghost use Rattle.sheet_reading.specs.declared.Number.TheVariants.{Read as NumberAt};
-ghost use Rattle.sheet_reading.specs.Judged.{NumberIs};
-ghost use Rattle.sheet_reading.specs.Put.{Readable, NumberThere, Copies, place_for, test_for, Copied, NamePut, RowPutIs};
+ghost use Rattle.sheets.specs.declared.Place.TheVariants.{Start, Quoted};
+ghost use Rattle.sheet_reading.specs.Put.{Readable, Copies, place_for, test_for, Copied, NamePut, RowPutIs};
 
 use crate::judging::row_end;
-use crate::numbers::digits;
-use crate::{Put, RowEnd, RowPut, Run};
+use crate::numbers::number_at;
+use crate::{Put, RowPut};
 use sheets::{COMMA, QUOTE};
 
-// The bytes of a name up to the one that ends them, to a place of the names on.
+// The bytes of a name up to the one that ends them, to a place of the names on. Names are short: with `run_end` and `copy_from_slice` in the place
+// of this loop, a plain sheet took a tenth longer and one with many quotes a seventh, and the plain one missed its target in docs/BENCH.md.
 fn copy_until(text: &[u8], from: usize, names: &mut [u8], at: usize, stop: u8) -> usize
     requires { Copies (place_for stop) stop (test_for stop) × Readable text.now (place_for stop) from at (length names.old) }
     ensures { Copied text.now from result stop names.old at names.new }
 {
-    let mut i = from;
-    while text[i] != stop {
+    for i in from..text.len() {
+        if text[i] == stop {
+            return i;
+        }
         names[at + (i - from)] = text[i];
-        i += 1;
     }
-    i
+    text.len()
 }
 
 // The rest of a quoted name, from a quote on. A quote behind it is a byte of the name; any other byte there is the comma.
@@ -32,6 +33,7 @@ fn copy_quotes(text: &[u8], from: usize, names: &mut [u8], at: usize) -> Put
 {
     let mut i = from;
     let mut k = at;
+    // No `for`: a step is two quotes and the bytes behind them.
     while text[i + 1] == QUOTE {
         names[k] = QUOTE;
         let next = i + 2;
@@ -70,39 +72,16 @@ fn copy_name(text: &[u8], from: usize, names: &mut [u8], at: usize) -> Put
     }
 }
 
-// The number behind a comma.
-fn number_of(text: &[u8], from: usize) -> Run
-    requires { NumberThere text.now from }
-    ensures { NumberIs text.now NumberPlace from (NumberAt result.end result.value) }
-{
-    if text[from] == QUOTE {
-        let d = digits(text, from + 1);
-        return Run {
-            end: d.end + 1,
-            value: d.value,
-        };
-    }
-    digits(text, from)
-}
-
-// The way out where a row has no end is never taken: the text was judged.
+// The row has a number and an end: the text was judged.
 pub(crate) fn copy_row(text: &[u8], from: usize, names: &mut [u8], at: usize) -> RowPut
     requires { (from < length text.now) × Readable text.now Start from at (length names.old) }
     ensures { RowPutIs text.now from names.old at names.new result }
 {
-    let p = copy_name(text, from, names, at);
-    let d = number_of(text, p.end);
-    let e = row_end(text, d.end);
-    let RowEnd::At(end) = e else {
-        return RowPut {
-            end: 0,
-            at: 0,
-            value: 0,
-        };
-    };
+    let name = copy_name(text, from, names, at);
+    let number = number_at(text, name.end).unwrap();
     RowPut {
-        end,
-        at: p.at,
-        value: d.value,
+        end: row_end(text, number.end).unwrap(),
+        at: name.at,
+        value: number.value,
     }
 }

@@ -1,67 +1,46 @@
 // The office sheet read (document 02, 2026-03). Reading goes over the text twice: judging.rt says whether it is a sheet and what it needs, and only
-// then filling.rt and carried.rt write.
+// then filling.rt writes.
 #![tactic(auto)]
 
 mod bytes;
-mod carried;
 mod copying;
 mod filling;
+mod identifiers;
 mod judging;
 mod names;
 mod numbers;
 mod runs;
 
-pub use carried::read_sheet_bytes;
-pub use filling::read_sheet;
+pub use filling::{read_sheet, read_sheet_bytes};
 
 // A name with its comma: where the number behind it begins, and how many bytes it takes in the names, its zero byte included.
 #[derive(Clone, Copy)]
-pub enum Name {
-    None,
-    Read { end: usize, bytes: usize },
+pub struct Name {
+    pub end: usize,
+    pub bytes: usize,
 }
 
-// A number: where it ends, and what it is, up to 2^32, which is already too large for an identifier.
-#[derive(Clone, Copy)]
-pub enum Number {
-    None,
-    Read { end: usize, value: usize },
-}
-
-// The end of a row: where the next one begins.
-#[derive(Clone, Copy)]
-pub enum RowEnd {
-    None,
-    At(usize),
-}
-
-// A row: where the next one begins, and what name and number are as above.
-#[derive(Clone, Copy)]
-pub enum RowRead {
-    None,
-    Read {
-        end: usize,
-        bytes: usize,
-        value: usize,
-    },
-}
-
-// A text: no sheet, or one of so many rows and bytes of names, whose identifiers all fit a word or not.
-#[derive(Clone, Copy)]
-pub enum Judged {
-    None,
-    Sheet {
-        rows: usize,
-        bytes: usize,
-        fits: bool,
-    },
-}
-
-// Digits one after the other: where they end, and the number that they make, up to 2^32.
+// Digits one after the other: where they end, and the number that they make, up to 2^32, which is already too large for an identifier.
 #[derive(Clone, Copy)]
 pub struct Run {
     pub end: usize,
     pub value: usize,
+}
+
+// A row: where the next one begins, and what name and number are as above.
+#[derive(Clone, Copy)]
+pub struct Row {
+    pub end: usize,
+    pub bytes: usize,
+    pub value: usize,
+}
+
+// A sheet of so many rows and bytes of names, whose identifiers all fit a word or not.
+#[derive(Clone, Copy)]
+pub struct Sheet {
+    pub rows: usize,
+    pub bytes: usize,
+    pub fits: bool,
 }
 
 // A name written: where the number behind it begins, and the place behind the name in the names.

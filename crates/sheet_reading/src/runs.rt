@@ -1,55 +1,21 @@
 // Runs: the bytes of a name, or digits, one after the other. They are most of a sheet.
-ghost use Rattle.std.specs.Prelude.{◌≡◌, ◌≤◌, length};
-ghost use Rattle.lists.specs.Basics.{table};
-ghost use Rattle.sheets.specs.Grammar.{is_digit};
-ghost use Rattle.sheet_reading.specs.Kinds.{plain_byte, quoted_byte, kind_of};
+// Here, and in names.rt, numbers.rt and judging.rt, a text and a place in it are passed as two. A struct of both would be made at each call, its
+// bound proved there as that clause is now, since each function goes on from a place that another found.
+ghost use Rattle.std.specs.Prelude.{◌≡◌, ℕ, Bool, ◌≤◌, ◌<◌, length};
 ghost use Rattle.sheet_reading.specs.Runs.{RunTo};
 
-use crate::bytes::wide;
-use sheets::is_digit;
-
-// The end of the bytes that may stand in an unquoted name.
-pub(crate) fn plain_end(text: &[u8], kinds: &[u8; 256], from: usize) -> usize
-    requires { (from ≤ length text.now) × (kinds.now ≡ table 256 kind_of) }
-    ensures { RunTo plain_byte text.now from result }
+// The end of the bytes from a place on that pass the test.
+pub(crate) fn run_end<F: Fn(u8) -> bool>(text: &[u8], from: usize, passes: F) -> usize
+    requires within { from ≤ length text.now }
+    requires callable { F.IsAlwaysCallable passes }
+    ensures ahead { from ≤ result }
+    ensures inside { result ≤ length text.now }
+    ensures runs { (test : ℕ → Bool) → ((b : ℕ) (r : Bool) → b < 256 → F.post passes b r → r ≡ test b) → RunTo test text.now from result }
 {
-    let mut i = from;
-    while i < text.len() {
-        let b = wide(text[i]);
-        if kinds[b] != 0 {
+    for i in from..text.len() {
+        if !passes(text[i]) {
             return i;
         }
-        i += 1;
     }
-    i
-}
-
-// The end of the bytes that stand for themselves in a quoted name.
-pub(crate) fn quoted_end(text: &[u8], kinds: &[u8; 256], from: usize) -> usize
-    requires { (from ≤ length text.now) × (kinds.now ≡ table 256 kind_of) }
-    ensures { RunTo quoted_byte text.now from result }
-{
-    let mut i = from;
-    while i < text.len() {
-        let b = wide(text[i]);
-        if kinds[b] == 2 {
-            return i;
-        }
-        i += 1;
-    }
-    i
-}
-
-pub(crate) fn digits_end(text: &[u8], from: usize) -> usize
-    requires { from ≤ length text.now }
-    ensures { RunTo is_digit text.now from result }
-{
-    let mut i = from;
-    while i < text.len() {
-        if !is_digit(text[i]) {
-            return i;
-        }
-        i += 1;
-    }
-    i
+    text.len()
 }

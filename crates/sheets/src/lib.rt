@@ -6,8 +6,6 @@ ghost use Rattle.std.specs.Prelude.{◌≡◌, [], ◌∷◌, ◌+◌, ◌-◌, 
 ghost use Rattle.lists.specs.Splice.{splice};
 ghost use Rattle.sheets.specs.Grammar.{is_digit, bare as bare_spec};
 
-use lists::both;
-
 pub const QUOTE: u8 = 34;
 
 pub const COMMA: u8 = 44;
@@ -17,7 +15,7 @@ pub const CR: u8 = 13;
 pub const LF: u8 = 10;
 
 // Where a reader stands between two bytes of a sheet; Wrong where no sheet begins with the bytes before. (specs/Reader.antt)
-#[derive(Clone, Copy)]
+#[derive(Clone, Copy, Debug, PartialEq, Eq)]
 pub enum Place {
     Start,
     Plain,
@@ -35,7 +33,7 @@ pub enum Place {
 
 // What a byte does at the place that it leads to: nothing; it is a byte of the name; it ends the name; it is a figure of the number; it ends
 // the row.
-#[derive(Clone, Copy)]
+#[derive(Clone, Copy, Debug, PartialEq, Eq)]
 pub enum Effect {
     Quiet,
     Letter,
@@ -45,7 +43,7 @@ pub enum Effect {
 }
 
 // What a text that ends at a place ends behind, if a sheet may end there.
-#[derive(Clone, Copy)]
+#[derive(Clone, Copy, Debug, PartialEq, Eq)]
 pub enum Ending {
     Within,
     BehindRows,
@@ -63,33 +61,27 @@ pub struct Counts {
 pub fn bare(b: u8) -> bool
     ensures { result ≡ bare_spec b }
 {
-    both(both(b != QUOTE, b != COMMA), both(b != CR, b != LF))
+    ((b != QUOTE) & (b != COMMA)) & ((b != CR) & (b != LF))
 }
 
 pub fn is_digit(b: u8) -> bool
     ensures { result ≡ is_digit b }
 {
-    both(48 <= b, b <= 57)
+    (48 <= b) & (b <= 57)
 }
 
 // The value of a digit; of a byte below all digits, which is never read as one, 0.
 pub fn digit_value(b: u8) -> usize
     ensures { (result ≡ b - 48) × (result < 256) }
 {
-    if b < 48 {
-        return 0;
-    }
-    (b - 48) as usize
+    usize::from(b.saturating_sub(48))
 }
 
 // The word of a number; of a larger one, which is refused before it is used, the largest word.
 pub fn word_of(value: usize) -> u32
     ensures { result ≡ min value 4294967295 }
 {
-    if value < 4294967295 {
-        return value as u32;
-    }
-    4294967295
+    u32::try_from(value).unwrap_or(u32::MAX)
 }
 
 // One byte, at a place of a buffer. The place behind it is returned.

@@ -1,7 +1,8 @@
 -- `is_digit`. Assumes nothing.
+use mathlib.Core.Path.{refl}
 use Rattle.sheets.specs.Grammar.{is_digit}
 use Rattle.sheets.proofs.is_digit.Goals as goal
 
 pub returns : goal.returns
 unfolding is_digit
-returns c = simp c.both.ensures
+returns c = refl

@@ -1,28 +1,31 @@
--- `copy_row`: the name is copied; number and end are there. Assumes nothing.
+-- `copy_row`: name, number and end, one behind the other. Assumes nothing.
 use mathlib.Core.Path.{subst}
 use lib.ListN.{length}
+use Rattle.sheets.specs.declared.Place.TheVariants.{Number}
 use Rattle.sheet_reading.specs.Judged.{NumberIs, EndIs}
-use Rattle.sheet_reading.specs.Put.{number_there, end_there, row_put_lem}
+use Rattle.sheet_reading.specs.Put.{number_there, number_said, end_said, row_put_lem}
 use Rattle.sheet_reading.proofs.copying.copy_row.Goals as goal
 
-pub copy_name-p-requires : goal.copy_name-p-requires
-copy_name-p-requires c = c.requires
+pub unwrap-number-requires : goal.unwrap-number-requires
+unwrap-number-requires c =
+    let a = c.args in
+    let n = c.copy_name-name in
+    number_said a.text.now n.result.end (number_there a.text.now a.from a.at (length a.names.now) c.requires.1 a.names.now _ n.result n.ensures) c.number_at.result c.number_at.ensures
 
-pub number_of-d-requires : goal.number_of-d-requires
-number_of-d-requires c = number_there c.args.text.now c.args.from c.args.at (length c.args.names.now) c.requires.1 c.args.names.now _ c.copy_name-p.result c.copy_name-p.ensures
-
-pub row_end-e-requires : goal.row_end-e-requires
+pub row_end-requires : goal.row_end-requires
 unfolding NumberIs
-row_end-e-requires c = c.number_of-d.ensures.within
+row_end-requires c = let x = subst (NumberIs c.args.text.now Number _) c.unwrap-number.ensures c.number_at.ensures in x.within
 
-pub shape_of-names-in_default : goal.shape_of-names-in_default
-shape_of-names-in_default c = c.copy_name-p.auto.names
-
-pub returns-in_default : goal.returns-in_default
-returns-in_default c = absurd (end_there c.args.text.now c.args.from c.args.at (length c.args.names.now) c.requires.1 c.args.names.now _ c.copy_name-p.result c.copy_name-p.ensures _ _ c.number_of-d.ensures (subst (EndIs c.args.text.now _) c.in_default.is c.row_end-e.ensures))
-
-pub shape_of-names : goal.shape_of-names
-shape_of-names c = c.copy_name-p.auto.names
+pub unwrap-requires : goal.unwrap-requires
+unwrap-requires c =
+    let a = c.args in
+    let n = c.copy_name-name in
+    let x = subst (NumberIs a.text.now Number _) c.unwrap-number.ensures c.number_at.ensures in
+    end_said a.text.now a.from a.at (length a.names.now) c.requires.1 a.names.now _ n.result n.ensures c.unwrap-number.result x c.row_end.result c.row_end.ensures
 
 pub returns : goal.returns
-returns c = row_put_lem c.args.text.now c.args.from c.args.at (length c.args.names.now) c.requires.1 c.args.names.now _ c.copy_name-p.result c.copy_name-p.ensures _ _ c.number_of-d.ensures _ (subst (EndIs c.args.text.now _) c.in-At.is c.row_end-e.ensures)
+returns c =
+    let a = c.args in
+    let n = c.copy_name-name in
+    let x = subst (NumberIs a.text.now Number _) c.unwrap-number.ensures c.number_at.ensures in
+    row_put_lem a.text.now a.from a.at (length a.names.now) c.requires.1 a.names.now _ n.result n.ensures c.unwrap-number.result x c.unwrap.result (subst (EndIs a.text.now _) c.unwrap.ensures c.row_end.ensures)

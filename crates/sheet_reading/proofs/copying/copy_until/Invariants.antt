@@ -1,8 +1,6 @@
--- `copy_until`: the bytes up to i are copied, and the one that ends them is ahead. Assumes nothing.
+-- `copy_until`: the bytes up to i are copied. Assumes nothing.
 use mathlib.Core.Path.{◌≡◌}
 use mathlib.Core.Bool.{true}
-use Prim.Native.Nat.{◌-◌, ◌≤◌}
-use lib.ListN.{length}
 use Rattle.lists.specs.Basics.{every}
 use Rattle.lists.specs.Splice.{splice}
 use Rattle.sheet_reading.specs.Runs.{between}
@@ -10,7 +8,4 @@ use Rattle.sheet_reading.specs.Put.{test_for}
 use Rattle.sheet_reading.proofs.copying.copy_until.Given as goal
 
 abbrev pub invariant-loop-i : goal.invariant-loop-i
-invariant-loop-i l = (l.from ≤ l.i) × (every (test_for l.stop) (between l.from l.i l.text) ≡ true) × (l.names ≡ splice l.initial.names l.at (between l.from l.i l.text)) × (length l.names ≡ length l.initial.names)
-
-abbrev pub decreases-loop-i : goal.decreases-loop-i
-decreases-loop-i l = length l.text - l.i
+invariant-loop-i l = (every (test_for l.stop) (between l.from l.i l.text) ≡ true) × (l.names ≡ splice l.initial.names l.at (between l.from l.i l.text))

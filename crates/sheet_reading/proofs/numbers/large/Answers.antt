@@ -1,12 +1,14 @@
 -- `large`: too large, or as it is. Assumes nothing.
-use Rattle.sheet_reading.specs.Judged.{large_more, large_here, large_fits}
+use mathlib.Core.Path.{◌∙◌}
+use Rattle.std.proofs.Common.{rules, of_calls}
+use Rattle.sheets.specs.Grammar.{is_digit}
+use Rattle.sheet_reading.specs.Judged.{large_more, large_none}
 use Rattle.sheet_reading.proofs.numbers.large.Goals as goal
 
 pub returns-then-end-from : goal.returns-then-end-from
-returns-then-end-from c = (c.digits_end-end.ensures, large_more c.args.text.now c.args.from c.digits_end-end.result c.args.value c.digits_end-end.ensures c.requires.1 c.if-end-from.true)
-
-pub returns-then-value-gt4294967295 : goal.returns-then-value-gt4294967295
-returns-then-value-gt4294967295 c = (c.digits_end-end.ensures, large_here c.args.text.now c.args.from c.digits_end-end.result c.args.value c.if-value-gt4294967295.true)
+returns-then-end-from c =
+    let u = c.run_end-end.ensures.runs is_digit (λ b r h p. search rules) in
+    (u, large_more c.args.text.now c.args.from c.run_end-end.result c.args.value u c.requires.1 c.if-end-from.true)
 
 pub returns : goal.returns
-returns c = (c.digits_end-end.ensures, large_fits c.args.text.now c.args.from c.digits_end-end.result c.args.value c.if-end-from.false c.if-value-gt4294967295.false)
+returns c = (c.run_end-end.ensures.runs is_digit (search (of_calls, rules)), c.min.ensures ∙ large_none c.args.text.now c.args.from c.run_end-end.result c.args.value c.if-end-from.false)

@@ -2,7 +2,7 @@
 use Prim.Native.Nat.{◌-◌}
 use lib.ListN.{length}
 use Rattle.sheet_reading.specs.Judged.{Quoting}
-use Rattle.sheet_reading.proofs.names.quoted_name.Given as goal
+use Rattle.sheet_reading.proofs.bytes.Kinds.quoted_name.Given as goal
 
 abbrev pub invariant-loop-i : goal.invariant-loop-i
 invariant-loop-i l = Quoting l.text l.from l.i l.doubled
