@@ -1,5 +1,5 @@
 -- Document 01's starred probes and the foundings of document 02, proved together. Assumes nothing.
-use Rattle.std.specs.Prelude.{◌≡◌, ℕ, T, nat_le, nat_lt}
+use Rattle.std.specs.Prelude.{◌≡◌, ℕ, T, Some, nat_le, nat_lt}
 use Rattle.std.proofs.Math.Path.{refl, ap}
 use Rattle.std.proofs.Common.{◌∙◌, arith, leb→le, ltb→lt}
 use mathlib.Core.List.{List, [], ◌∷◌, ◌++◌, map}
@@ -20,8 +20,8 @@ use Rattle.protocol.specs.Step as step
 use Rattle.protocol.specs.Step.{Result, refused, accepted}
 use Rattle.protocol.specs.Calls.{written, fresh_by_call}
 use Rattle.protocol.specs.Answers.{answer_words}
-use Rattle.protocol.specs.Frames.{is_digit, digit_value, read2, read4, read8, founding, identifier_at, identifiers, command, frame, digit_of, print2, print4, print8, refusal_text, fields_text, outcome_text, line, answering, frame_call, line_call}
-use Rattle.protocol.specs.Ringrun.{lines_of, text_of, answers, ringrun}
+use Rattle.protocol.specs.Frames.{is_digit, digit_value, founding, identifier_at, identifiers, command, frame, digit_of, refusal_text, fields_text, outcome_text, line, answering, frame_call, line_call}
+use Rattle.protocol.specs.Ringrun.{lines_of, answers, ringrun}
 use Rattle.layout.specs.Words.{drop_words}
 use Rattle.layout.specs.Form.{Form}
 use Rattle.layout.specs.Asks.{Leaves, leaves_form}
@@ -63,11 +63,11 @@ abbrev Read : List (List ℕ) → List Call → Type 0
 Read [] [] = Unit {0}
 Read [] (c ∷ calls) = ⊥
 Read (l ∷ more) [] = ⊥
-Read (l ∷ more) (c ∷ calls) = (frame l ≡ Command c.operation c.x c.y) × Read more calls
+Read (l ∷ more) (c ∷ calls) = (frame l ≡ Some (Command c.operation c.x c.y)) × Read more calls
 
 -- What is printed for an outcome.
 abbrev shown : Outcome → List ℕ
-shown o = text_of (line (outcome_text o))
+shown o = line (outcome_text o)
 
 shown_calls : (w : List ℕ) (input : List (List ℕ)) (calls : List Call) → Read input calls → printed w input ≡ map shown (outcomes w calls)
 unfolding printed outcomes line_call frame_call answering
@@ -75,7 +75,7 @@ shown_calls w [] [] r = refl
 shown_calls w [] (c ∷ calls) r = absurd r
 shown_calls w (l ∷ more) [] r = absurd r
 shown_calls w (l ∷ more) (c ∷ calls) r =
-    ap (λ z. text_of (frame_call w l z).printed ∷ printed (frame_call w l z).slice more) r.0
+    ap (λ z. (frame_call w l z).printed ∷ printed (frame_call w l z).slice more) r.0
     ∙ ap (λ z. shown (called present w c).outcome ∷ z) (shown_calls (called present w c).slice more calls r.1)
 
 -- The first line founds the ring, by hub 0, and the others are these calls.
@@ -86,7 +86,7 @@ pub record Told (input output : List (List ℕ)) : Type 0 where
   first : List ℕ
   more : List (List ℕ)
   lines : input ≡ first ∷ more
-  founds : frame first ≡ Founding (length ids)
+  founds : frame first ≡ Some (Founding (length ids))
   names : identifiers first (length ids) ≡ ids
   reads : Read more calls
   prints : map shown said ≡ output
@@ -95,7 +95,7 @@ told_printed : (slice : List ℕ) (input output : List (List ℕ)) (t : Told inp
 unfolding printed line_call frame_call answering
 told_printed slice input output t e =
     ap (printed slice) t.lines
-    ∙ ap (λ z. text_of (frame_call slice t.first z).printed ∷ printed (frame_call slice t.first z).slice t.more) t.founds
+    ∙ ap (λ z. (frame_call slice t.first z).printed ∷ printed (frame_call slice t.first z).slice t.more) t.founds
     ∙ ap (λ z. shown (fresh_by_call slice z 0).outcome ∷ printed (fresh_by_call slice z 0).slice t.more) t.names
     ∙ ap (λ z. shown (fresh_by_call slice t.ids 0).outcome ∷ z) (shown_calls (fresh_by_call slice t.ids 0).slice t.more t.calls t.reads)
     ∙ ap (map shown) e
@@ -161,7 +161,7 @@ unfolding smallest first every when◌then◌else◌
 eight_none_named = eight_outcomes_lem
 
 eight_lines_lem : Told (map codes eight_lines) (map codes eight_texts)
-unfolding text_of codes frame founding command identifiers identifier_at is_digit digit_value read2 read4 read8 require when◌then◌else◌ every table line outcome_text fields_text answer_words digit_of print2 print4 print8
+unfolding codes frame founding command identifiers identifier_at is_digit digit_value require when◌then◌else◌ every table line outcome_text fields_text answer_words digit_of
 eight_lines_lem = record {
   ids = eight_ids;
   calls = eight_calls;
@@ -176,7 +176,7 @@ eight_lines_lem = record {
 }
 
 swapped_lines_lem : Told (map codes swapped_lines) (map codes swapped_texts)
-unfolding text_of codes frame founding command identifiers identifier_at is_digit digit_value read2 read4 read8 require when◌then◌else◌ every table line refusal_text outcome_text fields_text answer_words digit_of print2 print4 print8
+unfolding codes frame founding command identifiers identifier_at is_digit digit_value require when◌then◌else◌ every table line refusal_text outcome_text fields_text answer_words digit_of
 swapped_lines_lem = record {
   ids = swapped;
   calls = asks;
@@ -205,7 +205,7 @@ probes =
 answers_printed : (w : List ℕ) (lines : List (List ℕ)) → answers w lines ≡ flat (λ l. l) (printed w lines)
 unfolding answers printed
 answers_printed w [] = refl
-answers_printed w (l ∷ lines) = ap (λ z. text_of (line_call w l).printed ++ z) (answers_printed (line_call w l).slice lines)
+answers_printed w (l ∷ lines) = ap (λ z. (line_call w l).printed ++ z) (answers_printed (line_call w l).slice lines)
 
 listing_lines : lines_of [] listing_input ≡ map codes eight_lines
 unfolding lines_of codes when◌then◌else◌

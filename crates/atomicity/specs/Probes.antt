@@ -12,7 +12,6 @@ use Rattle.protocol.specs.Names.{LAST_HUB, NO_MESSAGE, NOT_IN_RING}
 use Rattle.protocol.specs.Record.{round, record_size}
 use Rattle.protocol.specs.Calls.{Called, fresh_call, fresh_by_call}
 use Rattle.protocol.specs.Frames.{line_call}
-use Rattle.protocol.specs.Ringrun.{text_of}
 use Rattle.atomicity.specs.Demand3.{Call, present, called}
 
 -- The outcomes of a fresh call and then of calls on the record that it wrote.
@@ -26,7 +25,7 @@ lines begun calls = begun.outcome ∷ outcomes begun.slice calls
 -- What is printed for each line of a list, its LF with it.
 unfoldable pub printed : List ℕ → List (List ℕ) → List (List ℕ)
 printed w [] = []
-printed w (l ∷ more) = text_of (line_call w l).printed ∷ printed (line_call w l).slice more
+printed w (l ∷ more) = (line_call w l).printed ∷ printed (line_call w l).slice more
 
 pub data Probe : Type 0 where
   -- whether v is in (a, b]

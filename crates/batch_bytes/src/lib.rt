@@ -5,7 +5,7 @@
 ghost use Rattle.std.specs.Prelude.{◌≡◌};
 ghost use Rattle.protocol.specs.Batch.{batch_bytes};
 
-use protocol::form::{MOST_QUESTIONS, PLACE_WORDS, RECORD_BYTES};
+use protocol::form::{MOST_QUESTIONS, PLACE_WORDS, RECORD_BYTES, RECORD_WORDS};
 use protocol::refusals;
 use word_bytes::{load, loaded, save};
 
@@ -21,7 +21,7 @@ pub fn ask(words: &mut [u8], node: u32, numbers: &[u8], outcomes: &mut [u8]) -> 
     if words.len() < RECORD_BYTES {
         return refusals::RECORD_SHORT;
     }
-    let mut w = loaded(&words[..]);
+    let mut w = loaded::<RECORD_WORDS>(&words[..]);
     if !wellformed::well_formed(&w) {
         return refusals::NOT_WELL_FORMED;
     }
@@ -32,10 +32,11 @@ pub fn ask(words: &mut [u8], node: u32, numbers: &[u8], outcomes: &mut [u8]) -> 
     if outcomes.len() / PLACE_BYTES < n {
         return refusals::PLACES_SHORT;
     }
-    let mut asked = [0u32; MOST_QUESTIONS];
-    load(numbers, &mut asked, n);
+    let mut room = [0u32; MOST_QUESTIONS];
+    let asked = &mut room[..n];
+    load(numbers, asked);
     let mut places = [0u32; PLACES_WORDS];
-    batches::ask_each(&mut w, node, &asked[..n], &mut places);
+    batches::ask_each(&mut w, node, asked, &mut places);
     save(words, &w);
     let end = PLACE_WORDS * n;
     save(outcomes, &places[..end]);

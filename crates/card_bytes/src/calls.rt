@@ -7,7 +7,7 @@ ghost use Rattle.protocol.specs.CardBytes.{step_cards_bytes, offer_bytes, fresh_
 use crate::results::{finish_fresh, finish_offer, finish_step};
 use protocol::form::{BOOK_BYTES, BOOK_WORDS, RECORD_BYTES, RECORD_WORDS};
 use protocol::{Founder, refusals};
-use word_bytes::{load, loaded, loaded_book};
+use word_bytes::{load, loaded};
 
 // One command on the record in the lent bytes, with the cards in others. Only the first words of both are loaded: a step looks at nothing behind them.
 pub fn step(
@@ -29,8 +29,8 @@ pub fn step(
     if book.len() < BOOK_BYTES {
         return refusals::RECORD_SHORT;
     }
-    let mut w = loaded(&words[..]);
-    let mut k = loaded_book(&book[..]);
+    let mut w = loaded::<RECORD_WORDS>(&words[..]);
+    let mut k = loaded::<BOOK_WORDS>(&book[..]);
     let r = cards::step(&mut w, &mut k, operation, x, y);
     finish_step(words, book, out, &w, &k, r)
 }
@@ -45,8 +45,8 @@ pub fn offer(words: &[u8], book: &mut [u8], machine: u32, revision: u32, price: 
     if book.len() < BOOK_BYTES {
         return refusals::RECORD_SHORT;
     }
-    let w = loaded(words);
-    let mut k = loaded_book(&book[..]);
+    let w = loaded::<RECORD_WORDS>(words);
+    let mut k = loaded::<BOOK_WORDS>(&book[..]);
     let r = card_offers::offer(&w, &mut k, machine, revision, price);
     finish_offer(book, &k, r)
 }
@@ -65,11 +65,12 @@ fn found(words: &mut [u8], book: &mut [u8], identifiers: &[u8], founder: Founder
     if 64 < n {
         return refusals::IDENTIFIER_COUNT;
     }
-    let mut ids = [0u32; 64];
-    load(identifiers, &mut ids, n);
+    let mut room = [0u32; 64];
+    let ids = &mut room[..n];
+    load(identifiers, ids);
     let mut w = [0u32; RECORD_WORDS];
     let mut k = [0u32; BOOK_WORDS];
-    let r = cards::found(&mut w, &mut k, &ids[..n], founder);
+    let r = cards::found(&mut w, &mut k, ids, founder);
     finish_fresh(words, book, &w, &k, r)
 }
 

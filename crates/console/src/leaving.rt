@@ -1,55 +1,38 @@
 // Bytes to standard output.
-ghost use Rattle.std.specs.Prelude.{◌≤◌, length};
-
+use crate::Console;
 use crate::retries::may_retry;
-use crate::telling::{tell_dropped, tell_failure};
-use std::io::{Error, Print};
+use std::io::Print;
 
-// Whether a write that failed is made again; where it is not, the failure is told.
-fn goes_on(rt: &HostRuntime, name: &[u8], error: Error) -> bool {
-    if may_retry(error) {
-        return true;
-    }
-    tell_failure(rt, name, b"standard output", error);
-    false
-}
-
-// Writes what it can, and answers how many bytes were taken: not all where a write fails, which is told, or takes nothing. The turns are counted
-// down as those of `receive`.
-fn write_on(rt: &HostRuntime, name: &[u8], text: &[u8]) -> usize
-    ensures { result ≤ length text.now }
-{
-    let mut at = 0;
-    let mut turns = 18446744073709551615u64;
-    while turns > 0 {
-        if at == text.len() {
-            return at;
-        }
-        match rt.stdout().write_some(&text[at..]) {
-            Ok(0) => return at,
-            Ok(took) => at += took,
-            Err(error) => {
-                if !goes_on(rt, name, error) {
-                    return at;
+impl Console<'_> {
+    // Writes what it can, and answers what is left: something where a write fails, which is told, or takes nothing. Its turns are as those of
+    // `receive`.
+    fn write_on<'a>(&self, text: &'a [u8]) -> &'a [u8] {
+        let mut left = text;
+        for _ in 0..u64::MAX {
+            if left.is_empty() {
+                return left;
+            }
+            match self.rt.stdout().write_some(left) {
+                Ok(0) => return left,
+                Ok(took) => left = &left[took..],
+                Err(error) => {
+                    if !may_retry(error) {
+                        self.tell_failure(b"standard output", error);
+                        return left;
+                    }
                 }
             }
         }
-        turns -= 1;
+        left
     }
-    at
-}
 
-// Writes all of `text`. Where that fails it says on standard error how many bytes were not written, and answers false.
-pub fn send(rt: &HostRuntime, name: &[u8], text: &[u8]) -> bool {
-    let done = write_on(rt, name, text);
-    if done == text.len() {
-        return true;
+    // Writes all of `text`. Where that fails it says on standard error how many bytes were not written, and answers false.
+    pub fn send(&self, text: &[u8]) -> bool {
+        let left = self.write_on(text);
+        if left.is_empty() {
+            return true;
+        }
+        self.tell_dropped(left.len(), b" bytes of output were not written");
+        false
     }
-    tell_dropped(
-        rt,
-        name,
-        text.len() - done,
-        b" bytes of output were not written",
-    );
-    false
 }

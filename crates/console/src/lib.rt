@@ -9,7 +9,12 @@ mod reasons;
 mod retries;
 mod telling;
 
-pub use arriving::{Arrival, receive};
-pub use gathering::{Gathered, gather};
-pub use leaving::send;
-pub use telling::drop_line;
+pub use arriving::Arrival;
+pub use gathering::Begun;
+
+// A program's standard input and output, and its name, which stands before what it says on standard error.
+#[derive(Clone, Copy)]
+pub struct Console<'a> {
+    pub rt: &'a HostRuntime,
+    pub name: &'a [u8],
+}

@@ -1,39 +1,40 @@
-// What failed, and what was lost by it, on standard error. `name` is the program's. Where standard error fails too, nobody can be told.
+// What failed, and what was lost by it, on standard error. Where standard error fails too, nobody can be told.
+use crate::Console;
 use crate::reasons::reason_of;
 use std::io::{Error, Print};
 
-fn put(rt: &HostRuntime, bytes: &[u8]) {
-    let _ = rt.stderr().write_all(bytes);
-}
+impl Console<'_> {
+    fn put(&self, bytes: &[u8]) {
+        let _ = self.rt.stderr().write_all(bytes);
+    }
 
-// The call that failed, and the system's word for why.
-pub fn tell_failure(rt: &HostRuntime, name: &[u8], what: &[u8], error: Error) {
-    let reason = reason_of(error);
-    put(rt, name);
-    put(rt, b": ");
-    put(rt, what);
-    put(rt, b": ");
-    put(rt, reason.word());
-    put(rt, b"\n");
-}
+    // The call that failed, and the system's word for why.
+    pub(crate) fn tell_failure(&self, what: &[u8], error: Error) {
+        let reason = reason_of(error);
+        self.put(self.name);
+        self.put(b": ");
+        self.put(what);
+        self.put(b": ");
+        self.put(reason.word());
+        self.put(b"\n");
+    }
 
-// So many bytes were lost, and of what.
-pub fn tell_dropped(rt: &HostRuntime, name: &[u8], count: usize, what: &[u8]) {
-    put(rt, name);
-    put(rt, b": ");
-    let _ = rt.stderr().print(count);
-    put(rt, what);
-    put(rt, b"\n");
-}
+    // So many bytes were lost, and of what.
+    pub(crate) fn tell_dropped(&self, count: usize, what: &[u8]) {
+        self.put(self.name);
+        self.put(b": ");
+        let _ = self.rt.stderr().print(count);
+        self.put(what);
+        self.put(b"\n");
+    }
 
-// What was begun of a line when a read failed is not answered: it is no line yet, and what follows is not known.
-pub fn drop_line(rt: &HostRuntime, name: &[u8], held: usize) {
-    if held > 0 {
-        tell_dropped(
-            rt,
-            name,
-            held,
-            b" bytes held of a line that had not ended were dropped",
-        );
+    // What was begun of a line when a read failed is not answered: it is no line yet, and what follows is not known.
+    pub fn drop_line(&self, held: usize) {
+        if held > 0 {
+            self.tell_dropped(
+                held,
+                b" bytes held of a line that had not ended were dropped",
+            );
+        }
     }
 }

@@ -1,10 +1,12 @@
--- What digits are worth at most, and a test of all bytes from a place on. Assumes nothing.
-use Rattle.std.specs.Prelude.{◌≡◌, Bool, true, false, List, ℕ, ◌+◌, ◌-◌, ◌<◌, nat_lt, length, drop, get_or}
+-- What digits are worth at most, the number that digits make one by one, and a test of all bytes. Assumes nothing.
+use Rattle.std.specs.Prelude.{◌≡◌, Bool, List, [], ◌∷◌, ℕ, suc, ◌+◌, ◌-◌, ◌*◌, ◌^◌, ◌<◌, ◌≤◌, ◌&&◌, nat_lt}
+use Rattle.std.proofs.Math.Path.{refl, ap}
 use Rattle.std.proofs.Common.{add-one, arith, ltb→lt}
-use Rattle.std.proofs.Math.Seq.{drop-cons}
+use Rattle.std.proofs.Math.Nat.{pow-suc, pow-le-pow_right}
+use Rattle.std.specs.List.{list_all}
 use Rattle.lists.specs.Choice.{choose}
 use Rattle.lists.specs.Basics.{every}
-use Rattle.protocol.specs.Frames.{digit_value, read2, read4}
+use Rattle.protocol.specs.Frames.{digit_value}
 
 pub digit_bound : (b : ℕ) → digit_value b < 16
 unfolding digit_value
@@ -14,20 +16,17 @@ digit_bound b =
     (λ _. choose (λ v. v < 16) (nat_lt b 65) 0 _ (λ _. omega arith)
     (λ _. choose (λ v. v < 16) (nat_lt b 71) (b - 55) 0 (λ t. let h = ltb→lt b 71 t in omega arith) (λ _. omega arith))))
 
-pub read2_bound : (l : List ℕ) (at : ℕ) → read2 l at < 256
-unfolding read2
-read2_bound l at = omega (arith, digit_bound (get_or l at 0), digit_bound (get_or l (at + 1) 0))
+-- i digits and one more, of at most eight
+pub one_more : (v b i : ℕ) → v < 16 ^ i → i < 8 → (v * 16 + digit_value b < 16 ^ (i + 1)) × (v * 16 + digit_value b < 2 ^ 32)
+one_more v b i h k =
+    let d = digit_bound b in
+    let e : 16 ^ suc i ≡ 16 ^ i * 16 = pow-suc 16 i in
+    let z : 0 < 16 = omega arith in
+    let q : i ≤ 7 = omega arith in
+    let p : 16 ^ i ≤ 16 ^ 7 = pow-le-pow_right z q in
+    (rw (add-one, e) (omega arith), omega arith)
 
-pub read4_bound : (l : List ℕ) (at : ℕ) → read4 l at < 65536
-unfolding read4
-read4_bound l at = omega (arith, read2_bound l at, read2_bound l (at + 2))
-
--- The byte at i decides, or leaves it to those after it.
-module _ (f : ℕ → Bool) (l : List ℕ) (i : ℕ) (h : i < length l) where
-  pub every_stops : f (get_or l i 0) ≡ false → every f (drop i l) ≡ false
-  unfolding every
-  every_stops e = rw (drop-cons l i 0 h, e)
-
-  pub every_goes_on : f (get_or l i 0) ≡ true → every f (drop i l) ≡ every f (drop (i + 1) l)
-  unfolding every
-  every_goes_on e = rw (add-one, drop-cons l i 0 h, e)
+pub every_is : (f : ℕ → Bool) (l : List ℕ) → every f l ≡ list_all f l
+unfolding every
+every_is f [] = refl
+every_is f (x ∷ l) = ap (λ b. f x && b) (every_is f l)

@@ -1,11 +1,11 @@
 -- The readings of the frame's edge cases, and how a refusal prints, computed. (Document 01's eight lines are a probe: atomicity/specs/Probes.antt.)
 -- Assumes nothing.
-use Rattle.std.specs.Prelude.{◌≡◌, refl, List, [], ◌∷◌, ◌++◌, ℕ, replicate}
+use Rattle.std.specs.Prelude.{◌≡◌, refl, List, [], ◌∷◌, ◌++◌, ℕ, replicate, Some, None}
 use Rattle.lists.specs.Basics.{when◌then◌else◌, require, every}
 use Rattle.protocol.specs.declared.Outcome.TheVariants.{Refused}
-use Rattle.protocol.specs.declared.Frame.TheVariants.{Founding, Command, Unreadable}
+use Rattle.protocol.specs.declared.Frame.TheVariants.{Founding, Command}
 use Rattle.protocol.specs.Names.{IDENTIFIER_COUNT, UNREADABLE}
-use Rattle.protocol.specs.Frames.{is_digit, digit_value, read2, read4, read8, founding, command, frame, digit_of, print2, refusal_text, outcome_text}
+use Rattle.protocol.specs.Frames.{is_digit, digit_value, founding, command, frame, digit_of, refusal_text, outcome_text}
 
 -- 00, 00000000, 00000096
 unfoldable pub ask_frame : List ℕ
@@ -13,17 +13,17 @@ ask_frame = replicate 16 48 ++ (57 ∷ 54 ∷ [])
 
 -- An empty line does not read, nor does one with a CR behind it, nor one of lower case; F0 alone reads.
 pub edges :
-    (frame ask_frame ≡ Command 0 0 150)
-    × (frame [] ≡ Unreadable)
-    × (frame (ask_frame ++ (13 ∷ [])) ≡ Unreadable)
-    × (frame (102 ∷ 48 ∷ []) ≡ Unreadable)
-    × (frame (70 ∷ 48 ∷ []) ≡ Founding 0)
-unfolding ask_frame is_digit digit_value read2 read4 read8 founding command frame when◌then◌else◌ require every
+    (frame ask_frame ≡ Some (Command 0 0 150))
+    × (frame [] ≡ None)
+    × (frame (ask_frame ++ (13 ∷ [])) ≡ None)
+    × (frame (102 ∷ 48 ∷ []) ≡ None)
+    × (frame (70 ∷ 48 ∷ []) ≡ Some (Founding 0))
+unfolding ask_frame is_digit digit_value founding command frame when◌then◌else◌ require every
 edges = (refl, refl, refl, refl, refl)
 
 -- EE0D and EEFF
 pub refusals :
     (outcome_text (Refused IDENTIFIER_COUNT) ≡ 69 ∷ 69 ∷ 48 ∷ 68 ∷ [])
     × (refusal_text UNREADABLE ≡ 69 ∷ 69 ∷ 70 ∷ 70 ∷ [])
-unfolding digit_of print2 refusal_text outcome_text when◌then◌else◌
+unfolding digit_of refusal_text outcome_text when◌then◌else◌
 refusals = (refl, refl)

@@ -1,44 +1,43 @@
 -- What a line gives, by the frame that it is: what the call under it gives, printed. And that 515 bytes of a line are enough. Assumes nothing.
-use Rattle.std.specs.Prelude.{◌≡◌, refl, Bool, true, false, List, ℕ, ◌<◌, length, take, nat_le}
+use Rattle.std.specs.Prelude.{◌≡◌, refl, Bool, true, false, List, ℕ, ◌<◌, length, take, nat_le, Option, Some, None}
 use Rattle.std.proofs.Math.Path.{ap}
 use Rattle.std.proofs.Common.{sym, ◌∙◌, arith, take_all, length-take-le, leb-true, leb-false}
 use Rattle.std.proofs.lemmas.Bool.{lt-leb}
 use Rattle.lists.specs.Basics.{require, when◌then◌else◌}
 use Rattle.protocol.specs.declared.Frame.{Frame}
-use Rattle.protocol.specs.declared.Frame.TheVariants.{Founding, Command, Unreadable}
-use Rattle.protocol.specs.declared.Line.{Line}
+use Rattle.protocol.specs.declared.Frame.TheVariants.{Founding, Command}
 use Rattle.protocol.specs.declared.Outcome.{Outcome}
 use Rattle.protocol.specs.Names.{UNREADABLE}
 use Rattle.protocol.specs.Calls.{Called, fresh_by_call, step_call}
 use Rattle.protocol.specs.Frames.{frame, identifiers, refusal_text, outcome_text, line, answering, frame_call, line_call}
 
-module _ (w l : List ℕ) (f : Frame) (e : f ≡ frame l) where
-  known : (g : Frame) → f ≡ g → line_call w l ≡ frame_call w l g
+module _ (w l : List ℕ) (f : Option Frame) (e : f ≡ frame l) where
+  known : line_call w l ≡ frame_call w l f
   unfolding line_call
-  known g k = ap (frame_call w l) (sym e ∙ k)
+  known = ap (frame_call w l) (sym e)
 
-  answered : (called : Called) (o : Outcome) (after : List ℕ) (p : Line) → called ≡ record { outcome = o; slice = after } → p ≡ line (outcome_text o)
+  pub unreadable_line : (p : List ℕ) → f ≡ None → p ≡ line (refusal_text UNREADABLE) → line_call w l ≡ record { printed = p; slice = w }
+  unfolding frame_call
+  unreadable_line p k q = known ∙ ap (frame_call w l) k ∙ ap (λ z. record { printed = z; slice = w }) (sym q)
+
+  answered : (called : Called) (o : Outcome) (after p : List ℕ) → called ≡ record { outcome = o; slice = after } → p ≡ line (outcome_text o)
       → answering called ≡ record { printed = p; slice = after }
   unfolding answering
   answered called o after p c q = ap answering c ∙ ap (λ z. record { printed = z; slice = after }) (sym q)
 
-  module _ (o : Outcome) (after : List ℕ) (p : Line) (q : p ≡ line (outcome_text o)) where
-    pub founding_line_lem : (n : ℕ) → f ≡ Founding n → fresh_by_call w (identifiers l n) 0 ≡ record { outcome = o; slice = after }
+  module _ (o : Outcome) (after p : List ℕ) (q : p ≡ line (outcome_text o)) where
+    pub founding_line_lem : (n : ℕ) → f ≡ Some (Founding n) → fresh_by_call w (identifiers l n) 0 ≡ record { outcome = o; slice = after }
         → line_call w l ≡ record { printed = p; slice = after }
     unfolding frame_call
-    founding_line_lem n k c = known (Founding n) k ∙ answered (fresh_by_call w (identifiers l n) 0) o after p c q
+    founding_line_lem n k c = known ∙ ap (frame_call w l) k ∙ answered (fresh_by_call w (identifiers l n) 0) o after p c q
 
-    pub command_line : (operation x y : ℕ) → f ≡ Command operation x y → step_call w operation x y ≡ record { outcome = o; slice = after }
+    pub command_line : (operation x y : ℕ) → f ≡ Some (Command operation x y) → step_call w operation x y ≡ record { outcome = o; slice = after }
         → line_call w l ≡ record { printed = p; slice = after }
     unfolding frame_call
-    command_line operation x y k c = known (Command operation x y) k ∙ answered (step_call w operation x y) o after p c q
-
-  pub unreadable_line : (p : Line) → f ≡ Unreadable → p ≡ line (refusal_text UNREADABLE) → line_call w l ≡ record { printed = p; slice = w }
-  unfolding frame_call
-  unreadable_line p k q = known Unreadable k ∙ ap (λ z. record { printed = z; slice = w }) (sym q)
+    command_line operation x y k c = known ∙ ap (frame_call w l) k ∙ answered (step_call w operation x y) o after p c q
 
 -- A line that exceeds 514 digits does not read.
-too_long : (l : List ℕ) → 514 < length l → frame l ≡ Unreadable
+too_long : (l : List ℕ) → 514 < length l → frame l ≡ None
 unfolding frame require when◌then◌else◌
 too_long l h = rw (lt-leb _ _ h)
 

@@ -1,34 +1,58 @@
--- Digits put into a line, one run after another. Assumes nothing.
-use Rattle.std.specs.Prelude.{◌≡◌, refl, List, [], ◌∷◌, ◌++◌, ℕ, suc, ◌+◌, ◌/◌, length, set, get_or, replicate}
-use Rattle.std.proofs.Common.{ap, ◌∙◌, add-one, arith}
-use Rattle.std.proofs.lemmas.List.Edits.{sets}
-use Rattle.protocol.specs.Frames.{print2, print4, print8, fields_text, line}
+-- The last digits of a number, put down from the last to the first, and the line of a text. Assumes nothing.
+use Rattle.std.specs.Prelude.{◌≡◌, refl, List, [], ◌∷◌, ◌++◌, ℕ, zero, suc, ◌+◌, ◌/◌, ◌^◌, ◌<◌, ◌≤◌, ◌-◌, length, set, drop, take, replicate}
+use Rattle.std.proofs.Common.{ap, sym, ◌∙◌, arith, length-append, length-take, length-drop}
+use Rattle.std.proofs.Math.Seq.{take-append-add, drop-cons}
+use Rattle.std.proofs.lemmas.List.{get_or-replicate}
+use Rattle.std.proofs.Math.Nat.{pow-suc, pow-succ', div-div-eq-div-mul}
+use borrow.Rule.Slice.PartMut.{put_mid}
+use Rattle.lists.specs.Splice.{splice, put_part}
+use Rattle.protocol.specs.Frames.{digit_of, print, line}
 
-sets_more : (w vs us : List ℕ) (at : ℕ) → sets (sets w at vs) (at + length vs) us ≡ sets w at (vs ++ us)
-sets_more w [] us at = let e : at + 0 ≡ at = omega arith in ap (λ k. sets w k us) e
-sets_more w (v ∷ vs) us at =
-    let e : at + suc (length vs) ≡ suc at + length vs = omega arith in
-    ap (λ k. sets (sets (set w at v) (suc at) vs) k us) e ∙ sets_more (set w at v) vs us (suc at)
+-- the same number, divided once more
+pub divided : (v k : ℕ) → v / 16 ^ k / 16 ≡ v / 16 ^ suc k
+divided v k = div-div-eq-div-mul v (16 ^ k) 16 ∙ ap (λ z. v / z) (sym (pow-suc 16 k))
 
-pub put_two : (w : List ℕ) (at a b : ℕ) → set (set w at a) (at + 1) b ≡ sets w at (a ∷ b ∷ [])
-put_two w at a b = rw add-one
+-- one digit more, in front of the k behind it
+pub print_front : (k v : ℕ) → print (suc k) v ≡ digit_of (v / 16 ^ k) ∷ print k v
+print_front zero v = let e : v / 16 ^ 0 ≡ v = omega arith in ap (λ z. digit_of z ∷ []) (sym e)
+print_front (suc k) v =
+    let e = div-div-eq-div-mul v 16 (16 ^ k) ∙ ap (λ z. v / z) (sym (pow-succ' 16 k)) in
+    ap (λ z. z ++ (digit_of v ∷ [])) (print_front k (v / 16)) ∙ ap (λ z. digit_of z ∷ print (suc k) v) e
 
-pub put_four : (w : List ℕ) (at v : ℕ) → sets (sets w at (print2 (v / 256))) (at + 2) (print2 v) ≡ sets w at (print4 v)
-unfolding print2 print4
-put_four w at v = sets_more w (print2 (v / 256)) (print2 v) at
+pub length_print : (k v : ℕ) → length (print k v) ≡ k
+length_print zero v = refl
+length_print (suc k) v = let e = length-append (print k (v / 16)) (digit_of v ∷ []) in let f = length_print k (v / 16) in omega arith
 
-pub put_eight : (w : List ℕ) (at v : ℕ) → sets (sets w at (print4 (v / 65536))) (at + 4) (print4 v) ≡ sets w at (print8 v)
-unfolding print2 print4 print8
-put_eight w at v = sets_more w (print4 (v / 65536)) (print4 v) at
+-- an element put in front of those that are there
+one_front : (s : List ℕ) (j d : ℕ) → j < length s → drop j (set s j d) ≡ d ∷ drop (suc j) s
+one_front [] j d h = absurd (omega arith)
+one_front (x ∷ s) zero d h = refl
+one_front (x ∷ s) (suc j) d h = one_front s j d (omega arith)
 
--- The five fields of an answer put into 25 bytes of LF, each where the one before it ends.
-abbrev pub filled : List ℕ → List ℕ
-filled f = sets (sets (sets (sets (sets (replicate 25 10) 0 (print2 (get_or f 0 0))) 2 (print2 (get_or f 1 0))) 4 (print8 (get_or f 2 0))) 12 (print8 (get_or f 3 0))) 20 (print4 (get_or f 4 0))
+-- the digits from i on are there, and the next one is put in front of them
+pub put_more : (s : List ℕ) (i n v d rest : ℕ) → 0 < i → i ≤ n → length s ≡ n → drop i s ≡ print (n - i) v → rest ≡ v / 16 ^ (n - i) → d ≡ digit_of rest
+    → (drop (i - 1) (set s (i - 1) d) ≡ print (n - (i - 1)) v) × (rest / 16 ≡ v / 16 ^ (n - (i - 1)))
+put_more s i n v d rest h k m e f g =
+    let j : suc (i - 1) ≡ i = omega arith in
+    let q : n - (i - 1) ≡ suc (n - i) = omega arith in (
+      rw (q, print_front (n - i) v, one_front s (i - 1) d (omega arith), j, e, g, f),
+      rw (q, f) (divided v (n - i)),
+    )
 
-pub filled_is : (f : List ℕ) → record { bytes = filled f; count = 25 } ≡ line (fields_text f)
-unfolding line fields_text print2 print4 print8
-filled_is f = refl
+-- the text and one LF more, of an array of LF
+pub line_is : (t : List ℕ) → length t < 25 → take (length t + 1) (t ++ drop (length t) (replicate 25 10)) ≡ line t
+unfolding line
+line_is t h =
+    take-append-add t (drop (length t) (replicate 25 10)) 1
+    ∙ rw (drop-cons {A = ℕ} (replicate 25 10) (length t) 0 h, get_or-replicate {A = ℕ} 25 (length t) 10 0 h)
 
-pub length_filled : (f : List ℕ) → length (filled f) ≡ 25
-unfolding print2 print4 print8
-length_filled f = refl
+-- digits put into a part of a line
+pub put_at : (w ys : List ℕ) (a k v : ℕ) → a + k ≤ length w → ys ≡ print (length (take k (drop a w))) v → put_mid a k w ys ≡ splice w a (print k v)
+put_at w ys a k v h e =
+    let n : length (take k (drop a w)) ≡ k = simp (length-take, length-drop) (omega arith) in
+    ap (put_mid a k w) (e ∙ ap (λ i. print i v) n) ∙ put_part a k w (print k v) (length_print k v)
+
+pub put_at_length : (w ys : List ℕ) (a k : ℕ) → a + k ≤ length w → length ys ≡ length (take k (drop a w)) → length (put_mid a k w ys) ≡ length w
+put_at_length w ys a k h e =
+    let n : length (take k (drop a w)) ≡ k = simp (length-take, length-drop) (omega arith) in
+    simp (length-append, length-take, length-drop) (omega arith)

@@ -1,27 +1,25 @@
 // The call that a line makes on the record.
-ghost use Rattle.std.specs.Prelude.{◌≡◌, ◌+◌, ◌*◌, ◌≤◌, length, take};
+ghost use Rattle.std.specs.Prelude.{◌≡◌, ◌+◌, ◌*◌, ◌≤◌, length};
 ghost use Rattle.protocol.specs.Calls.{fresh_by_call};
 ghost use Rattle.protocol.specs.Frames.{identifiers as identifiers_spec, line_call};
 
-use crate::digits::read8;
+use crate::digits::number;
+use crate::line::Line;
 use crate::printing::{outcome_line, refusal_line};
 use crate::reading::decode;
 use founding::fresh_by;
-use protocol::{Frame, Line, Outcome, refusals};
+use protocol::{Frame, Outcome, refusals};
 use steps::step;
 
-// The identifiers that follow F0, in the first places of an array that has room for the most that a frame can hold.
-fn identifiers(line: &[u8], count: usize) -> [u32; 64]
-    requires { (count ≤ 64) × (2 + 8 * count ≤ length line.now) }
-    ensures { take count result ≡ identifiers_spec line.now count }
+// The identifiers that follow F0, as many as there is room for.
+fn read_identifiers(line: &[u8], ids: &mut [u32])
+    requires { 2 + 8 * length ids.old ≤ length line.now }
+    ensures { ids.new ≡ identifiers_spec line.now (length ids.old) }
 {
-    let mut ids = [0u32; 64];
-    let mut i = 0;
-    while i < count {
-        ids[i] = read8(line, 2 + 8 * i);
-        i += 1;
+    for (i, id) in ids.iter_mut().enumerate() {
+        let at = 2 + 8 * i;
+        *id = number(&line[at..at + 8]);
     }
-    ids
 }
 
 // The fresh call of a line that decodes as a founding with so many identifiers. A line has no place for a founder, and those who write it
@@ -30,20 +28,21 @@ pub fn fresh_ring(w: &mut [u32], line: &[u8], count: usize) -> Outcome
     requires { (count ≤ 64) × (2 + 8 * count ≤ length line.now) }
     ensures { fresh_by_call w.old (identifiers_spec line.now count) 0 ≡ record { outcome = result; slice = w.new } }
 {
-    let ids = identifiers(line, count);
-    fresh_by(w, &ids[..count], 0)
+    let mut room = [0u32; 64];
+    let ids = &mut room[..count];
+    read_identifiers(line, ids);
+    fresh_by(w, ids, 0)
 }
 
 // One line, without its LF, on the record's words: what is printed for it, and the words after it. Every line and every slice are taken.
 pub fn answer_line(w: &mut [u32], line: &[u8]) -> Line
-    ensures { (line_call w.old line.now ≡ record { printed = result; slice = w.new }) × (result.count ≤ 25) × (length result.bytes ≡ 25) }
+    ensures { line_call w.old line.now ≡ record { printed = result; slice = w.new } }
 {
-    let frame = decode(line);
-    if let Frame::Founding(count) = frame {
-        return outcome_line(fresh_ring(w, line, count));
-    }
-    let Frame::Command { operation, x, y } = frame else {
+    let Some(frame) = decode(line) else {
         return refusal_line(refusals::UNREADABLE);
     };
-    outcome_line(step(w, operation, x, y))
+    match frame {
+        Frame::Founding(count) => outcome_line(fresh_ring(w, line, count)),
+        Frame::Command { operation, x, y } => outcome_line(step(w, operation, x, y)),
+    }
 }

@@ -3,9 +3,11 @@
 
 mod calls;
 mod digits;
+mod line;
 mod printing;
 mod reading;
 
 pub use calls::{answer_line, fresh_ring};
-pub use printing::{put2, put8};
+pub use line::Line;
+pub use printing::put;
 pub use reading::decode;

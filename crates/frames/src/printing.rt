@@ -1,10 +1,10 @@
 // The line that is printed for an outcome.
-ghost use Rattle.std.specs.Prelude.{◌≡◌, ◌+◌, ◌≤◌, length};
-ghost use Rattle.std.proofs.lemmas.List.Edits.{sets};
-ghost use Rattle.protocol.specs.Frames.{digit_of, print2, print4, print8, refusal_text, fields_text, outcome_text, line};
+ghost use Rattle.std.specs.Prelude.{◌≡◌, length};
+ghost use Rattle.protocol.specs.Frames.{digit_of, print, refusal_text, fields_text, outcome_text, line};
 
+use crate::line::Line;
 use answers::answer_words;
-use protocol::{Line, Outcome};
+use protocol::Outcome;
 
 // The last digit of a number, upper case.
 fn digit_of(v: u32) -> u8
@@ -17,55 +17,40 @@ fn digit_of(v: u32) -> u8
     (55 + d) as u8
 }
 
-// The last 2 digits of a number, from a place of the line on.
-pub fn put2(out: &mut [u8], at: usize, v: u32)
-    requires { at + 2 ≤ length out.old }
-    ensures { out.new ≡ sets out.old at (print2 v) }
+// The last digits of a number, as many as there is room for.
+pub fn put(out: &mut [u8], v: u32)
+    ensures { out.new ≡ print (length out.old) v }
 {
-    out[at] = digit_of(v / 16);
-    out[at + 1] = digit_of(v);
+    let mut rest = v;
+    for i in (0..out.len()).rev() {
+        out[i] = digit_of(rest);
+        rest /= 16;
+    }
 }
 
-fn put4(out: &mut [u8], at: usize, v: u32)
-    requires { at + 4 ≤ length out.old }
-    ensures { out.new ≡ sets out.old at (print4 v) }
-{
-    put2(out, at, v / 256);
-    put2(out, at + 2, v);
-}
-
-pub fn put8(out: &mut [u8], at: usize, v: u32)
-    requires { at + 8 ≤ length out.old }
-    ensures { out.new ≡ sets out.old at (print8 v) }
-{
-    put4(out, at, v / 65536);
-    put4(out, at + 4, v);
-}
-
-// The array begins full of LF, so that whatever text is put in front of it ends the line.
 pub fn refusal_line(number: u32) -> Line
-    ensures { (result ≡ line (refusal_text number)) × (result.count ≤ 25) × (length result.bytes ≡ 25) }
+    ensures { result ≡ line (refusal_text number) }
 {
-    let mut bytes = [10u8; 25];
-    put2(&mut bytes, 0, 238);
-    put2(&mut bytes, 2, number);
-    Line { bytes, count: 5 }
+    let mut text = [0u8; 4];
+    put(&mut text[0..2], 238);
+    put(&mut text[2..4], number);
+    Line::of(&text)
 }
 
 fn fields_line(fields: [u32; 5]) -> Line
-    ensures { (result ≡ line (fields_text fields)) × (result.count ≤ 25) × (length result.bytes ≡ 25) }
+    ensures { result ≡ line (fields_text fields) }
 {
-    let mut bytes = [10u8; 25];
-    put2(&mut bytes, 0, fields[0]);
-    put2(&mut bytes, 2, fields[1]);
-    put8(&mut bytes, 4, fields[2]);
-    put8(&mut bytes, 12, fields[3]);
-    put4(&mut bytes, 20, fields[4]);
-    Line { bytes, count: 25 }
+    let mut text = [0u8; 24];
+    put(&mut text[0..2], fields[0]);
+    put(&mut text[2..4], fields[1]);
+    put(&mut text[4..12], fields[2]);
+    put(&mut text[12..20], fields[3]);
+    put(&mut text[20..24], fields[4]);
+    Line::of(&text)
 }
 
 pub fn outcome_line(o: Outcome) -> Line
-    ensures { (result ≡ line (outcome_text o)) × (result.count ≤ 25) × (length result.bytes ≡ 25) }
+    ensures { result ≡ line (outcome_text o) }
 {
     match o {
         Outcome::Refused(number) => refusal_line(number),

@@ -2,43 +2,43 @@
 ghost use Rattle.std.specs.Prelude.{◌≡◌};
 ghost use Rattle.protocol.specs.Frames.{founding as founding_spec, frame};
 
-use crate::digits::{all_digits, read2, read8};
+use crate::digits::{all_digits, number};
 use protocol::Frame;
 
 // The digits after F0, if they make whole identifiers. None at all do: how many a ring may have is for the fresh call to say.
-fn founding(digits: usize) -> Frame
+fn founding(digits: usize) -> Option<Frame>
     ensures { result ≡ founding_spec digits }
 {
     if digits % 8 != 0 {
-        return Frame::Unreadable;
+        return None;
     }
-    Frame::Founding(digits / 8)
+    Some(Frame::Founding(digits / 8))
 }
 
 // The length is asked first, so that a line of any length costs no more than the longest frame. F0 is asked before the length
 // of a command: two identifiers make a frame that is as long as one.
-pub fn decode(line: &[u8]) -> Frame
+pub fn decode(line: &[u8]) -> Option<Frame>
     ensures { result ≡ frame line.now }
 {
     if 514 < line.len() {
-        return Frame::Unreadable;
+        return None;
     }
     if !all_digits(line) {
-        return Frame::Unreadable;
+        return None;
     }
     if line.len() < 2 {
-        return Frame::Unreadable;
+        return None;
     }
-    let operation = read2(line, 0);
+    let operation = number(&line[0..2]);
     if operation == 240 {
         return founding(line.len() - 2);
     }
     if line.len() != 18 {
-        return Frame::Unreadable;
+        return None;
     }
-    Frame::Command {
+    Some(Frame::Command {
         operation,
-        x: read8(line, 2),
-        y: read8(line, 10),
-    }
+        x: number(&line[2..10]),
+        y: number(&line[10..18]),
+    })
 }

@@ -5,7 +5,7 @@ ghost use Rattle.hubsheet.specs.Line.{refusal_line, founding_line, rows_line, Pr
 
 use crate::hubs::{Held, PLACES, counted};
 use crate::places::ending;
-use frames::{put2, put8};
+use frames::put;
 use protocol::refusals;
 use sheets::{Ending, put_byte};
 
@@ -16,8 +16,8 @@ pub const LINE: usize = 516;
 fn put_refusal(out: &mut [u8; LINE], number: u32) -> usize
     ensures { (result ≡ length (refusal_line number)) × (out.new ≡ laid out.old (refusal_line number)) }
 {
-    put2(out, 0, 238);
-    put2(out, 2, number);
+    put(&mut out[0..2], 238);
+    put(&mut out[2..4], number);
     put_byte(out, 4, 10);
     5
 }
@@ -27,9 +27,10 @@ fn put_founding(out: &mut [u8; LINE], identifiers: &[u32]) -> usize
     requires { length identifiers.now ≤ 64 }
     ensures { (result ≡ length (founding_line identifiers.now)) × (out.new ≡ laid out.old (founding_line identifiers.now)) }
 {
-    put2(out, 0, 240);
+    put(&mut out[0..2], 240);
     for (i, identifier) in identifiers.iter().enumerate() {
-        put8(out, 2 + 8 * i, *identifier);
+        let at = 2 + 8 * i;
+        put(&mut out[at..at + 8], *identifier);
     }
     let end = 2 + 8 * identifiers.len();
     put_byte(out, end, 10);

@@ -12,6 +12,9 @@ pub const MOST_PLACES: usize = 64;
 // The last of the nine counts.
 pub const LAST_COUNT: u64 = 8;
 
+// What is kept of a line: one byte more than a frame can have.
+pub const KEPT_BYTES: usize = 515;
+
 // The smaller of two lengths: an end that a part of a block can have.
 
 pub fn least(a: usize, b: usize) -> usize

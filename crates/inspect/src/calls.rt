@@ -127,16 +127,15 @@ fn inquire(w: &mut [u32], q: Inquiry, s: Session, out: &mut [u8]) -> Answered {
 // Every line is taken, and so is every record. A frame means what it means to `ringrun`: one that founds names node 0.
 pub fn answer(w: &mut [u32], line: &[u8], s: Session, out: &mut [u8]) -> Answered {
     let n = least(s.lent, w.len());
-    let frame = decode(line);
-    if let Frame::Founding(count) = frame {
-        let r = fresh_ring(&mut w[..n], line, count);
-        return Answered {
-            session: s,
-            end: wording::outcome(out, 0, r),
-        };
+    match decode(line) {
+        Some(Frame::Founding(count)) => {
+            let r = fresh_ring(&mut w[..n], line, count);
+            Answered {
+                session: s,
+                end: wording::outcome(out, 0, r),
+            }
+        }
+        Some(Frame::Command { operation, x, y }) => step(&mut w[..n], operation, x, y, s, out),
+        None => inquire(w, read_inquiry(line), s, out),
     }
-    if let Frame::Command { operation, x, y } = frame {
-        return step(&mut w[..n], operation, x, y, s, out);
-    }
-    inquire(w, read_inquiry(line), s, out)
 }

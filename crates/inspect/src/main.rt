@@ -9,65 +9,55 @@ mod numerals;
 mod taking;
 mod waiting;
 
-use bounds::KEPT_WORDS;
+use bounds::{KEPT_BYTES, KEPT_WORDS};
 use calls::Session;
-use console::{Arrival, drop_line, receive};
+use console::{Arrival, Begun, Console};
 use protocol::Tally;
 use protocol::form::RECORD_WORDS;
-use taking::{Turn, finish, take_bytes};
+use taking::{finish, take_bytes};
 
-// Nothing more comes, or nobody sees the answers.
-fn stopped(t: Turn) -> Turn {
-    let session = t.session;
-    Turn {
-        session,
-        held: t.held,
-        at: 0,
-        goes_on: false,
-    }
-}
-
-// One read, and the answers to every line that it ends. At the end of the input the last line may lack its LF.
+// One read, and the answers to every line that it ends. At the end of the input the last line may lack its LF. Nothing is kept where nothing
+// more comes, or nobody sees the answers.
 fn take_some(
-    rt: &HostRuntime,
+    console: Console,
     w: &mut [u32],
-    line: &mut [u8],
+    line: &mut Begun<KEPT_BYTES>,
     out: &mut [u8],
-    t: Turn,
+    session: Session,
     input: &mut [u8],
-) -> Turn {
-    let arrival = receive(rt, b"inspect", input);
+) -> Option<Session> {
+    let arrival = console.receive(input);
     match arrival {
-        Arrival::Bytes(n) => take_bytes(rt, w, line, out, t, &input[..n]),
-        Arrival::End => stopped(finish(rt, w, line, out, t)),
-        Arrival::Failed => {
-            drop_line(rt, b"inspect", t.held);
-            stopped(t)
+        Arrival::Bytes(n) => {
+            let turn = take_bytes(console, w, line, out, session, &input[..n]);
+            if turn.goes_on {
+                return Some(turn.session);
+            }
         }
+        Arrival::End => finish(console, w, line, out, session),
+        Arrival::Failed => console.drop_line(line.as_slice().len()),
     }
+    None
 }
 
-// A proved loop has to end, and nothing says that the input does. So the loop counts its turns down, from a number that no run uses up.
+// A proved loop has to end, and nothing says that the input does: no run uses up its turns.
 fn run(
-    rt: &HostRuntime,
+    console: Console,
     w: &mut [u32],
-    line: &mut [u8],
+    line: &mut Begun<KEPT_BYTES>,
     out: &mut [u8],
-    t: Turn,
     input: &mut [u8],
 ) {
-    let mut turns = 18446744073709551615u64;
-    let mut turn = t;
-    while turns > 0 {
-        turn = take_some(rt, w, line, out, turn, input);
-        if !turn.goes_on {
+    let mut session = begun();
+    for _ in 0..u64::MAX {
+        let Some(kept) = take_some(console, w, line, out, session, input) else {
             return;
-        }
-        turns -= 1;
+        };
+        session = kept;
     }
 }
 
-fn begun() -> Turn {
+fn begun() -> Session {
     let tally = Tally {
         quiet: 0,
         found: 0,
@@ -79,23 +69,21 @@ fn begun() -> Turn {
         left: 0,
         refused: 0,
     };
-    let session = Session {
+    Session {
         tally,
         lent: RECORD_WORDS,
-    };
-    Turn {
-        session,
-        held: 0,
-        at: 0,
-        goes_on: true,
     }
 }
 
-// One byte more than a frame can have; more bytes than the longest answer, that of 256 waiting questions.
+// There are more bytes for an answer than the longest has, that of 256 waiting questions.
 fn main(rt: HostRuntime) {
     let mut record = [0u32; KEPT_WORDS];
-    let mut line = [0u8; 515];
+    let mut line = Begun::new();
     let mut out = [0u8; 32768];
     let mut input = [0u8; 8192];
-    run(&rt, &mut record, &mut line, &mut out, begun(), &mut input);
+    let console = Console {
+        rt: &rt,
+        name: b"inspect",
+    };
+    run(console, &mut record, &mut line, &mut out, &mut input);
 }

@@ -7,6 +7,7 @@ use Rattle.std.proofs.Math.Nat.{zero-add, add_comm}
 use Rattle.std.proofs.Math.ListN.{length, drop, get_or, length-drop}
 use Rattle.std.proofs.lemmas.List.{replicate-append-replicate, length-replicate}
 use Rattle.std.proofs.lemmas.List.Edits.{sets}
+use borrow.Rule.Slice.PartMut.{put_mid}
 use Rattle.std.proofs.Math.Seq.{sets-eq, get_or-append-add, get_or-drop, drop-cons, set_at, take-suc, append_snoc, take-append_seam, drop-append_seam, drop-append-add}
 
 -- w with vs in the place of the elements from at on
@@ -27,34 +28,18 @@ module _ (w vs : List ℕ) (a : ℕ) (fits : a + length vs ≤ length w) where
       rw (rest, mid, append-nil, sets-eq vs (drop a w) 0 (simp length-drop (omega arith)), zero-add, drop-drop)
       (sym (append_assoc (take a w) vs (drop (a + length vs) w)))
 
--- a gap of g elements at the front is closed: k elements have come forward so far
+-- what a part from a on of the length of vs puts back, where vs was copied over it
+pub put_part : (a k : ℕ) (w vs : List ℕ) → length vs ≡ k → put_mid a k w vs ≡ splice w a vs
+unfolding splice
+put_part a k w vs e = rw (← e, drop-drop (length vs) a w) (sym (append_assoc (take a w) vs (drop (a + length vs) w)))
+
+-- g elements at the front are gone: the k elements behind them have come forward
 unfoldable pub shifted : ℕ → List ℕ → ℕ → List ℕ
 shifted g p k = take k (drop g p) ++ drop k p
-
-pub shifted_none : (g : ℕ) (p : List ℕ) → p ≡ shifted g p 0
-unfolding shifted
-shifted_none g p = refl
 
 pub length_shifted : (g : ℕ) (p : List ℕ) (k : ℕ) → k + g ≤ length p → length (shifted g p k) ≡ length p
 unfolding shifted
 length_shifted g p k h = simp (length-append, length-take, length-drop) (omega arith)
-
-module _ (g : ℕ) (p : List ℕ) (k : ℕ) (h : k + g < length p) where
-  len : length (take k (drop g p)) ≡ k
-  len = simp (length-take, length-drop) (omega arith)
-
-  pub shifted_read : get_or (shifted g p k) (k + g) 0 ≡ get_or p (k + g) 0
-  unfolding shifted
-  shifted_read =
-      ap (λ i. get_or (take k (drop g p) ++ drop k p) (i + g) 0) (sym len)
-      ∙ get_or-append-add (take k (drop g p)) (drop k p) g 0
-      ∙ get_or-drop k p g 0
-
-  pub shifted_step : set (shifted g p k) k (get_or p (k + g) 0) ≡ shifted g p (k + 1)
-  unfolding shifted
-  shifted_step =
-      rw (add-one, drop-cons p k 0 (omega arith), set_at (take k (drop g p)) (get_or p k 0) (drop (suc k) p) (get_or p (k + g) 0) k len, take-suc (drop g p) k 0 (simp length-drop (omega arith)), get_or-drop g p k 0, add_comm g k)
-      (sym (append_snoc (take k (drop g p)) (get_or p (k + g) 0) (drop (suc k) p)))
 
 -- g elements at the front taken out, the n after them moved up, and g zeros behind those
 unfoldable pub closed_up : ℕ → List ℕ → ℕ → List ℕ

@@ -1,7 +1,6 @@
 -- Document 01, '`ringrun`': the whole program, from the bytes of its input to the bytes that it prints.
-use Rattle.std.specs.Prelude.{List, [], ◌∷◌, ◌++◌, ℕ, nat_eq, length, take, replicate}
+use Rattle.std.specs.Prelude.{List, [], ◌∷◌, ◌++◌, ℕ, nat_eq, length, replicate}
 use Rattle.lists.specs.Basics.{when◌then◌else◌}
-use Rattle.protocol.specs.declared.Line.{Line}
 use Rattle.protocol.specs.Record.{record_size}
 use Rattle.protocol.specs.Frames.{line_call}
 
@@ -11,13 +10,10 @@ unfoldable pub lines_of : List ℕ → List ℕ → List (List ℕ)
 lines_of begun [] = when nat_eq (length begun) 0 then [] else begun ∷ []
 lines_of begun (b ∷ rest) = when nat_eq b 10 then begun ∷ lines_of [] rest else lines_of (begun ++ (b ∷ [])) rest
 
-unfoldable pub text_of : Line → List ℕ
-text_of l = take l.count l.bytes
-
 -- One line is printed for each, made on the slice as the line before it left it.
 unfoldable pub answers : List ℕ → List (List ℕ) → List ℕ
 answers w [] = []
-answers w (l ∷ lines) = text_of (line_call w l).printed ++ answers (line_call w l).slice lines
+answers w (l ∷ lines) = (line_call w l).printed ++ answers (line_call w l).slice lines
 
 -- All words are 0 until a ring is founded.
 unfoldable pub ringrun : List ℕ → List ℕ
@@ -34,7 +30,7 @@ unfoldable pub line_ended : Standing → Standing
 line_ended s = record {
   slice = (line_call s.slice s.begun).slice;
   begun = [];
-  printed = s.printed ++ text_of (line_call s.slice s.begun).printed;
+  printed = s.printed ++ (line_call s.slice s.begun).printed;
 }
 
 unfoldable pub byte_fed : Standing → ℕ → Standing

@@ -7,6 +7,7 @@ pub mod kinds;
 pub mod refusal;
 pub mod refusals;
 pub mod states;
+mod words;
 
 pub use refusal::Refusal;
 
@@ -119,18 +120,10 @@ pub struct Tally {
     pub refused: u64,
 }
 
-// What a line of `ringrun` says: a ring founded with so many identifiers, whose digits follow from
-// byte 2 on; or a command; or nothing that reads.
+// What a line of `ringrun` that reads says: a ring founded with so many identifiers, whose digits
+// follow from byte 2 on; or a command.
 #[derive(Clone, Copy)]
 pub enum Frame {
     Founding(usize),
     Command { operation: u32, x: u32, y: u32 },
-    Unreadable,
-}
-
-// What `ringrun` prints for a line: the first `count` bytes, the last of which is LF. What is past them is LF too.
-#[derive(Clone, Copy)]
-pub struct Line {
-    pub bytes: [u8; 25],
-    pub count: usize,
 }

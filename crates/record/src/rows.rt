@@ -1,12 +1,11 @@
 ghost use Rattle.std.specs.Prelude.{◌≡◌, ◌+◌, ◌*◌, ◌≤◌, ◌<◌, length};
-ghost use Rattle.std.proofs.lemmas.List.Edits.{sets};
-ghost use Rattle.protocol.specs.Record.{most_nodes, row_size, row_start, record_size, count_in, row_words, row_from, read, row, identifier, outside};
+ghost use Rattle.protocol.specs.Record.{most_nodes, row_size, row_start, record_size, count_in, row_from, read, row, identifier, outside};
 ghost use Rattle.layout.specs.Edits.{row_put};
 
 use protocol::form::{NONE, ROW_WORDS, ROWS_AT};
 use protocol::{Row, states};
 
-// The row whose first word is at a place.
+// The row whose first word is at a place. (Word by word, as message_at.)
 pub fn row_at(w: &[u32], at: usize) -> Row
     requires { at + row_size ≤ length w.now }
     ensures { result ≡ row_from w.now at }
@@ -59,25 +58,11 @@ pub fn identifier_of(w: &[u32], node: u32) -> u32
     0
 }
 
-// The row's editor: it writes a row at the start of the part of the record that it is lent.
-fn edit_row(part: &mut [u32], h: Row)
-    requires { row_size ≤ length part.old }
-    ensures { part.new ≡ sets part.old 0 (row_words h) }
-{
-    part[0] = h.identifier;
-    part[1] = h.state;
-    part[2] = h.lock;
-    part[3] = h.flag;
-    part[4] = h.pred;
-    part[5] = h.succ;
-    part[6] = h.oldpred;
-}
-
-// Changes the words of one node, through the part of the record that starts with its row.
+// Changes the words of one node.
 pub fn put_row(w: &mut [u32], node: u32, h: Row)
     requires { row_start node + row_size ≤ length w.old }
     ensures { w.new ≡ row_put w.old node h }
 {
     let at = ROWS_AT + ROW_WORDS * (node as usize);
-    edit_row(&mut w[at..], h);
+    w[at..at + ROW_WORDS].copy_from_slice(&<[u32; ROW_WORDS]>::from(h));
 }

@@ -19,9 +19,10 @@ pub(crate) fn found(words: &mut [u8], identifiers: &[u8], founder: Founder) -> u
     if 64 < n {
         return refusals::IDENTIFIER_COUNT;
     }
-    let mut ids = [0u32; 64];
-    load(identifiers, &mut ids, n);
+    let mut room = [0u32; 64];
+    let ids = &mut room[..n];
+    load(identifiers, ids);
     let mut w = [0u32; RECORD_WORDS];
-    let r = founding::found(&mut w, &ids[..n], founder);
+    let r = founding::found(&mut w, ids, founder);
     finish_fresh(words, &w, r)
 }

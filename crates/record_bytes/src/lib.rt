@@ -10,7 +10,7 @@ ghost use Rattle.protocol.specs.Bytes.{step_bytes, owner_bytes, fresh_bytes, fre
 
 use crate::foundings::found;
 use crate::results::{finish, finish_owner};
-use protocol::form::RECORD_BYTES;
+use protocol::form::{RECORD_BYTES, RECORD_WORDS};
 use protocol::{Founder, refusals};
 use word_bytes::loaded;
 
@@ -24,7 +24,7 @@ pub fn step(words: &mut [u8], operation: u32, x: u32, y: u32, out: &mut [u8]) ->
     if words.len() < RECORD_BYTES {
         return refusals::RECORD_SHORT;
     }
-    let mut w = loaded(&words[..]);
+    let mut w = loaded::<RECORD_WORDS>(&words[..]);
     let r = steps::step(&mut w, operation, x, y);
     finish(words, out, &w, r)
 }
@@ -39,7 +39,7 @@ pub fn owner(words: &[u8], number: u32, out: &mut [u8]) -> u32
     if words.len() < RECORD_BYTES {
         return refusals::RECORD_SHORT;
     }
-    let w = loaded(words);
+    let w = loaded::<RECORD_WORDS>(words);
     let r = queries::owner(&w, number);
     finish_owner(out, r)
 }

@@ -14,11 +14,11 @@ turned w begun input (Bytes n) = taken w begun (take n input)
 turned w begun input End = ended (record { slice = w; begun = begun; printed = [] })
 turned w begun input Failed = record { slice = w; begun = begun; printed = [] }
 
-module _ (r : Arrival) (n : ℕ) (w begun input : List ℕ) where
+module _ (r : Arrival) (w begun input : List ℕ) where
   module _ (after : Standing) where
-    pub after_bytes : taken w begun (take n input) ≡ after → turned w begun input (Bytes n) ≡ after
+    pub after_bytes : (n : ℕ) → taken w begun (take n input) ≡ after → turned w begun input (Bytes n) ≡ after
     unfolding turned
-    after_bytes t = t
+    after_bytes n t = t
 
     pub after_end : r ≡ End → ended (record { slice = w; begun = begun; printed = [] }) ≡ after → turned w begun input r ≡ after
     unfolding turned

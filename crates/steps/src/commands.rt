@@ -83,8 +83,7 @@ pub(crate) fn deliver(w: &mut [u32], x: u32, y: u32) -> Outcome
     if !both(x < n, y < n) {
         return Outcome::Refused(refusals::NO_HUB);
     }
-    let j = record::find(w, x, y);
-    if j < m {
+    if let Some(j) = record::find(w, x, y) {
         let u = record::message_at(w, MESSAGES_AT + MESSAGE_WORDS * (j as usize));
         let h = record::row_of(w, y);
         let p = record::identifier_of(w, h.pred);

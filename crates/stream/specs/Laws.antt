@@ -1,32 +1,25 @@
 -- What the code does on its lists, as the meaning has it. Assumes nothing.
-use Rattle.std.specs.Prelude.{◌≡◌, refl, Bool, true, false, List, [], ◌∷◌, ◌++◌, ℕ, ◌+◌, ◌-◌, ◌≤◌, ◌<◌, length, take, drop, set, get_or, nat_eq}
-use Rattle.std.proofs.Common.{ap, sym, ◌∙◌, add-one, arith, length-take, length-take-le, drop-drop, take_all}
-use Rattle.std.proofs.Math.Seq.{paste, paste-suc, take-paste, drop-length}
-use Rattle.std.proofs.lemmas.List.Edits.{drop-paste}
+use Rattle.std.specs.Prelude.{◌≡◌, refl, Bool, true, false, List, [], ◌∷◌, ◌++◌, ℕ, ◌+◌, ◌-◌, ◌≤◌, length, take, drop, nat_eq}
+use Rattle.std.proofs.Common.{ap, sym, ◌∙◌, arith, drop-drop, take_all}
+use Rattle.std.proofs.lemmas.Slice.{take-put_mid, drop-put_mid}
+use borrow.Rule.Slice.PartMut.{put_mid}
 use borrow.Author.Tests.{ne_eqb}
 use Rattle.lists.specs.Basics.{when◌then◌else◌}
-use Rattle.protocol.specs.declared.Line.{Line}
 use Rattle.protocol.specs.Frames.{line_call}
 use Rattle.console.specs.Lines.{Gathering, kept, gathered}
-use Rattle.protocol.specs.Ringrun.{text_of, Standing, line_ended, byte_fed, fed, ended}
+use Rattle.protocol.specs.Ringrun.{Standing, line_ended, byte_fed, fed, ended}
 use Rattle.stream.specs.Pieces.{cut, cut_fed}
 
--- one byte more is copied
-pub paste_more : (d : List ℕ) (at : ℕ) (s : List ℕ) (j : ℕ) → at + j < length d → j < length s
-    → set (paste d at s j) (at + j) (get_or s j 0) ≡ paste d at s (j + 1)
-paste_more d at s j h k = rw add-one (paste-suc d at s j 0 h k)
-
 -- the answer to a line stands behind those that wait
-module _ (w l after out out' : List ℕ) (waiting : ℕ) (p : Line)
-    (called : line_call w l ≡ record { printed = p; slice = after })
-    (copied : out' ≡ paste out waiting p.bytes p.count)
-    (room : waiting ≤ length out) (all : p.count ≤ length p.bytes) where
-  pub answered : line_ended (record { slice = w; begun = l; printed = take waiting out }) ≡ record { slice = after; begun = []; printed = take (waiting + p.count) out' }
-  unfolding line_ended text_of
-  answered = rw (called, copied, take-paste out waiting p.bytes p.count room all)
+module _ (w l after out text : List ℕ) (waiting n : ℕ)
+    (called : line_call w l ≡ record { printed = text; slice = after })
+    (room : waiting ≤ length out) (size : length text ≡ n) where
+  pub answered : line_ended (record { slice = w; begun = l; printed = take waiting out }) ≡ record { slice = after; begun = []; printed = take (waiting + n) (put_mid waiting n out text) }
+  unfolding line_ended
+  answered = rw (called, take-put_mid waiting n out text (waiting + n) (omega arith) room)
 
-  pub rest_kept : drop (waiting + p.count) out' ≡ drop (waiting + p.count) out
-  rest_kept = rw (copied, drop-paste out waiting p.bytes p.count room all)
+  pub rest_kept : drop (waiting + n) (put_mid waiting n out text) ≡ drop (waiting + n) out
+  rest_kept = drop-put_mid waiting n out text (waiting + n) (omega arith) room size
 
 -- A line is gathered up to its LF and then ends; or the input ends first.
 unfoldable resumed : Standing → Gathering → Standing
@@ -48,12 +41,12 @@ gathered_fed s (b ∷ rest) = go (nat_eq b 10) (gathered_fed (record { slice = s
     go true k = refl
     go false k = sym (cut_fed more rest) ∙ k
 
-module _ (w begun printed input part left : List ℕ) (n : ℕ) (e : Bool) (size : n ≡ 515) (got : gathered n begun input ≡ record { part = part; ended = e; left = left }) where
+module _ (w begun printed input part left : List ℕ) (e : Bool) (got : gathered 515 begun input ≡ record { part = part; ended = e; left = left }) where
   known : cut (fed (record { slice = w; begun = begun; printed = printed }) input)
       ≡ cut (fed (resumed (record { slice = w; begun = begun; printed = printed }) (record { part = part; ended = e; left = left })) left)
   known =
       gathered_fed (record { slice = w; begun = begun; printed = printed }) input
-      ∙ ap (λ g. cut (fed (resumed (record { slice = w; begun = begun; printed = printed }) g) g.left)) (rw size at got)
+      ∙ ap (λ g. cut (fed (resumed (record { slice = w; begun = begun; printed = printed }) g) g.left)) got
 
   pub line_ends : e ≡ true → (after : Standing) → line_ended (record { slice = w; begun = part; printed = printed }) ≡ after
       → cut (fed (record { slice = w; begun = begun; printed = printed }) input) ≡ cut (fed after left)
@@ -65,15 +58,15 @@ module _ (w begun printed input part left : List ℕ) (n : ℕ) (e : Bool) (size
   line_goes_on t = known ∙ rw t
 
 -- the end of the input
-module _ (w line : List ℕ) (held : ℕ) where
-  pub nothing_begun : held ≡ 0 → ended (record { slice = w; begun = take held line; printed = [] }) ≡ record { slice = w; begun = []; printed = [] }
+module _ (w line : List ℕ) where
+  pub nothing_begun : length line ≡ 0 → ended (record { slice = w; begun = line; printed = [] }) ≡ record { slice = w; begun = line; printed = [] }
   unfolding ended when◌then◌else◌
   nothing_begun e = rw e
 
-  pub last_line : ¬ (held ≡ 0) → held ≤ length line → (after : Standing) → line_ended (record { slice = w; begun = take held line; printed = [] }) ≡ after
-      → ended (record { slice = w; begun = take held line; printed = [] }) ≡ after
+  pub last_line : ¬ (length line ≡ 0) → (after : Standing) → line_ended (record { slice = w; begun = line; printed = [] }) ≡ after
+      → ended (record { slice = w; begun = line; printed = [] }) ≡ after
   unfolding ended when◌then◌else◌
-  last_line h k after a = rw (length-take-le held line k, ne_eqb held 0 h) a
+  last_line h after a = rw (ne_eqb (length line) 0 h) a
 
 -- from turn to turn
 pub drop_further : (a b : ℕ) (l m : List ℕ) → a ≤ b → drop a l ≡ drop a m → drop b l ≡ drop b m
@@ -82,10 +75,6 @@ drop_further a b l m h e =
     rw s (sym (drop-drop (b - a) a l) ∙ ap (drop (b - a)) e ∙ drop-drop (b - a) a m)
 
 -- the last turn
-pub all_taken : (w line printed input : List ℕ) (begun at : ℕ) → length input ≤ at → at ≤ length input → begun ≤ 515
-    → cut (fed (record { slice = w; begun = take begun line; printed = printed }) (drop at input)) ≡ record { slice = w; begun = take begun line; printed = printed }
+pub all_taken : (w line printed : List ℕ) → length line ≤ 515 → cut (fed (record { slice = w; begun = line; printed = printed }) []) ≡ record { slice = w; begun = line; printed = printed }
 unfolding fed cut
-all_taken w line printed input begun at h k m =
-    let e : at ≡ length input = omega arith in
-    rw (e, drop-length input)
-    (ap (λ z. record { slice = w; begun = z; printed = printed }) (take_all 515 (take begun line) (simp length-take (omega arith))))
+all_taken w line printed h = ap (λ z. record { slice = w; begun = z; printed = printed }) (take_all 515 line h)

@@ -1,10 +1,11 @@
 -- An input in pieces, as reads bring it: the law about pieces, `in_pieces`, is at the end. Assumes nothing.
-use Rattle.std.specs.Prelude.{◌≡◌, refl, Bool, true, false, ℕ, suc, zero, nat_eq, length, take, replicate}
+use Rattle.std.specs.Prelude.{◌≡◌, refl, Bool, true, false, ℕ, suc, nat_eq, length, take, replicate}
 use Rattle.std.proofs.Common.{ap, sym, ◌∙◌, arith, ne_eqb, take-take}
 use mathlib.Core.List.{List, [], ◌∷◌, ◌++◌, append_assoc, append-nil, flatten}
 use Rattle.lists.specs.Basics.{when◌then◌else◌}
 use Rattle.protocol.specs.Record.{record_size}
 use Rattle.frames.specs.Lines.{enough}
+use Rattle.console.specs.Laws.{take_more}
 use Rattle.protocol.specs.Ringrun.{lines_of, answers, ringrun, Standing, line_ended, byte_fed, fed, ended}
 
 -- Of a line that has begun the first 515 bytes are kept, one more than a frame can have.
@@ -56,11 +57,6 @@ unfolding line_ended cut
 cut_line s = rw (enough s.slice s.begun)
 
 -- The next byte goes behind the bytes that are kept, and is then kept or not.
-take_more : (n : ℕ) (l t : List ℕ) → take n (take n l ++ t) ≡ take n (l ++ t)
-take_more zero l t = refl
-take_more (suc n) [] t = refl
-take_more (suc n) (x ∷ l) t = ap (λ z. x ∷ z) (take_more n l t)
-
 cut_byte : (s : Standing) (b : ℕ) → cut (byte_fed (cut s) b) ≡ cut (byte_fed s b)
 unfolding byte_fed cut when◌then◌else◌
 cut_byte s b = go (nat_eq b 10)

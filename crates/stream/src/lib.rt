@@ -4,4 +4,5 @@
 mod answering;
 mod taking;
 
-pub use taking::{Progress, finish, take_bytes};
+pub use answering::KEPT;
+pub use taking::{finish, take_bytes};

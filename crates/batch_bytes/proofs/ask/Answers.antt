@@ -1,7 +1,7 @@
 -- `ask`: the questions of the call in order, then the questions on the words that were loaded. Assumes nothing.
 use mathlib.Core.Path.{◌≡◌, sym, ap, subst, ◌∙◌}
 use mathlib.Core.Bool.{true}
-use Prim.Native.Nat.{◌*◌, ◌/◌}
+use Prim.Native.Nat.{ℕ, ◌*◌, ◌/◌}
 use native.Mathlib.Omega.{arith}
 use lib.ListN.{length, replicate}
 use lib.Seq.{length-take-le}
@@ -42,17 +42,12 @@ returns-then-outcomes-n c =
     let f : well_formed (first_words b record_size) ≡ true = ap well_formed (sym c.loaded-w.ensures) ∙ sym c.well_formed-2.ensures ∙ c.if-not-well_formed.false in
     bytes_26 b a.node a.numbers.now a.outcomes.now (omega arith) f (omega arith) (omega arith)
 
-pub slice_bounds-ask_each-end-2 : goal.slice_bounds-ask_each-end-2
-slice_bounds-ask_each-end-2 c =
-    let i = c.args.numbers.now in
-    rw c.load.ensures (sym (length_table (length i / 4) (word_at i)))
-
 pub ask_each-requires : goal.ask_each-requires
 ask_each-requires c =
     let a = c.args in
     let b = a.words.now in
     let i = a.numbers.now in
-    let n = ap length c.load.ensures ∙ length_table (length i / 4) (word_at i) in (
+    let n = length-take-le (length i / 4) (replicate {A = ℕ} 64 0) (omega arith) in (
       subst Valid (sym c.loaded-w.ensures) (loaded_valid b a.node i a.outcomes.now (omega arith) (ap well_formed (sym c.loaded-w.ensures) ∙ sym c.well_formed-2.ensures ∙ c.if-not-well_formed.false)),
       omega (arith, n),
     )
@@ -75,9 +70,10 @@ returns c =
     let n = length i / 4 in
     let r = c.ask_each in
     let count : length (first_words i n) ≡ n = length_table n (word_at i) in
+    let loaded : c.load.new.w ≡ first_words i n = c.load.ensures ∙ ap (first_words i) (length-take-le n (replicate 64 0) (omega arith)) in
     let bytes : All Byte b = all_at Byte b 0 (λ k h. omega (arith, c.slice_known-1.given k)) in
     let room : All Byte out = all_at Byte out 0 (λ k h. omega (arith, c.slice_known-2-1.given k)) in
     let f : well_formed (first_words b record_size) ≡ true = ap well_formed (sym c.loaded-w.ensures) ∙ sym c.well_formed-2.ensures ∙ c.if-not-well_formed.false in
     bytes_rest b a.node i out (omega arith) f (omega arith) (omega arith) bytes room (replicate 384 0) r.new.w r.new.outcomes
-    (rw (c.loaded-w.ensures, c.load.ensures) at r.ensures)
+    (rw (c.loaded-w.ensures, loaded) at r.ensures)
     ∙ simp (count, c.save.ensures, c.save-2.ensures)

@@ -14,5 +14,5 @@ pub returns : goal.returns
 returns c =
     let a = c.args in
     offer_rest a.words.now a.book.now a.machine a.revision a.price (omega arith) (omega arith) _ _ _
-    (rw (c.loaded-w.ensures, c.loaded_book-k.ensures) at c.offer-r.ensures)
+    (rw (c.loaded-w.ensures, c.loaded-k.ensures) at c.offer-r.ensures)
     ∙ c.finish_offer.ensures _

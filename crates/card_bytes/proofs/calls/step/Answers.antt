@@ -16,5 +16,5 @@ returns-then-book-lt-BOOK_BYTES c = let a = c.args in step_cards_short a.words.n
 pub returns : goal.returns
 returns c = let a = c.args in
     step_cards_rest a.words.now a.book.now a.out.now a.operation a.x a.y (omega arith) (omega arith) (omega arith) _ _ _
-    (rw (c.loaded-w.ensures, c.loaded_book-k.ensures) at c.step-r.ensures)
+    (rw (c.loaded-w.ensures, c.loaded-k.ensures) at c.step-r.ensures)
     ∙ c.finish_step.ensures

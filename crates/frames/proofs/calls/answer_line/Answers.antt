@@ -1,51 +1,34 @@
--- `frames::calls::answer_line` is `line_call`, by the three frames. Assumes nothing.
+-- `frames::calls::answer_line` is `line_call`, by what the line reads as. Assumes nothing.
+use mathlib.Core.Path.{ap, ◌∙◌}
+use Rattle.std.proofs.Common.{Some}
 use Rattle.frames.specs.Lines.{founding_line_lem, command_line, unreadable_line}
 use Rattle.frames.specs.Founding.{decoded_fits}
-use Rattle.protocol.specs.declared.Frame.TheVariants.{Founding, Command, Unreadable}
-use Rattle.protocol.specs.declared.Frame.{Frame}
-use Prim.Native.Nat.{ℕ}
-use mathlib.Core.Path.{◌≡◌, refl}
 use Rattle.frames.proofs.calls.answer_line.Goals as goal
 
--- A frame that is no founding and no command.
-neither : (f : Frame) → ((n : ℕ) → f ≡ Founding n → ⊥) → ((o x y : ℕ) → f ≡ Command o x y → ⊥) → f ≡ Unreadable
-neither (Founding n) h k = absurd (h n refl)
-neither (Command o x y) h k = absurd (k o x y refl)
-neither Unreadable h k = refl
+pub returns-in_default : goal.returns-in_default
+returns-in_default c =
+    let a = c.args in
+    let d = c.decode in
+    unreadable_line a.w.now a.line.now d.result d.ensures _ c.in_default.is c.refusal_line.ensures
 
 pub fresh_ring-requires : goal.fresh_ring-requires
 fresh_ring-requires c =
-    let d = c.decode-frame in
-    decoded_fits c.args.line.now d.result c.in-Founding.count d.ensures c.in-Founding.is
+    let d = c.decode in
+    decoded_fits c.args.line.now d.result c.in-Founding.count d.ensures (c.in-Some.is ∙ ap (λ z. Some z) c.in-Founding.is)
 
 pub returns-in-Founding : goal.returns-in-Founding
 returns-in-Founding c =
     let a = c.args in
-    let d = c.decode-frame in
+    let d = c.decode in
     let f = c.fresh_ring in
-    let p = c.outcome_line in (
-      founding_line_lem a.w.now a.line.now d.result d.ensures f.result f.new.w p.result p.ensures.0 c.in-Founding.count c.in-Founding.is f.ensures,
-      p.ensures.1,
-      p.ensures.2,
-    )
+    let p = c.outcome_line in
+    founding_line_lem a.w.now a.line.now d.result d.ensures f.result f.new.w p.result p.ensures c.in-Founding.count (c.in-Some.is ∙ ap (λ z. Some z) c.in-Founding.is) f.ensures
 
-pub returns-in_default-frame : goal.returns-in_default-frame
-returns-in_default-frame c =
+pub returns-in-Command : goal.returns-in-Command
+returns-in-Command c =
     let a = c.args in
-    let d = c.decode-frame in
-    let p = c.refusal_line in (
-      unreadable_line a.w.now a.line.now d.result d.ensures p.result (neither d.result c.in_default.not-Founding c.in_default-frame.not-Command) p.ensures.0,
-      p.ensures.1,
-      p.ensures.2,
-    )
-
-pub returns : goal.returns
-returns c =
-    let a = c.args in
-    let d = c.decode-frame in
+    let d = c.decode in
+    let m = c.in-Command in
     let s = c.step in
-    let p = c.outcome_line-2 in (
-      command_line a.w.now a.line.now d.result d.ensures s.result s.new.w p.result p.ensures.0 c.in-Command.operation c.in-Command.x c.in-Command.y c.in-Command.is s.ensures,
-      p.ensures.1,
-      p.ensures.2,
-    )
+    let p = c.outcome_line-in-Command in
+    command_line a.w.now a.line.now d.result d.ensures s.result s.new.w p.result p.ensures m.operation m.x m.y (c.in-Some.is ∙ ap (λ z. Some z) m.is) s.ensures

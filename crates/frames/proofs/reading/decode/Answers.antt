@@ -2,6 +2,7 @@
 use Rattle.protocol.specs.Frames.{frame, command}
 use Rattle.lists.specs.Basics.{when◌then◌else◌, require}
 use borrow.Author.Tests.{eq-eqb, ne_eqb, lt-leb, le-leb}
+use Rattle.frames.specs.Digits.{every_is}
 use Rattle.frames.proofs.reading.decode.Goals as goal
 
 pub returns-then-line-gt514 : goal.returns-then-line-gt514
@@ -10,20 +11,20 @@ returns-then-line-gt514 c = simp (lt-leb _ _ c.if-line-gt514.true)
 
 pub returns-then-not-all_digits : goal.returns-then-not-all_digits
 unfolding frame require when◌then◌else◌
-returns-then-not-all_digits c = simp (le-leb _ _ c.if-line-gt514.false, ← c.all_digits.ensures, c.if-not-all_digits.true)
+returns-then-not-all_digits c = simp (le-leb _ _ c.if-line-gt514.false, every_is, ← c.all_digits.ensures, c.if-not-all_digits.true)
 
 pub returns-then-line-lt2 : goal.returns-then-line-lt2
 unfolding frame require when◌then◌else◌
-returns-then-line-lt2 c = simp (le-leb _ _ c.if-line-gt514.false, ← c.all_digits.ensures, c.if-not-all_digits.false, lt-leb _ _ c.if-line-lt2.true)
+returns-then-line-lt2 c = simp (le-leb _ _ c.if-line-gt514.false, every_is, ← c.all_digits.ensures, c.if-not-all_digits.false, lt-leb _ _ c.if-line-lt2.true)
 
 pub returns-then-operation-eq240 : goal.returns-then-operation-eq240
 unfolding frame require when◌then◌else◌
-returns-then-operation-eq240 c = simp (le-leb _ _ c.if-line-gt514.false, ← c.all_digits.ensures, c.if-not-all_digits.false, le-leb _ _ c.if-line-lt2.false, ← c.read2-operation.ensures, eq-eqb _ _ c.if-operation-eq240.true) c.founding.ensures
+returns-then-operation-eq240 c = simp (le-leb _ _ c.if-line-gt514.false, every_is, ← c.all_digits.ensures, c.if-not-all_digits.false, le-leb _ _ c.if-line-lt2.false, ← c.number-operation.ensures, eq-eqb _ _ c.if-operation-eq240.true) c.founding.ensures
 
 pub returns-then-line-ne18 : goal.returns-then-line-ne18
 unfolding command frame require when◌then◌else◌
-returns-then-line-ne18 c = simp (le-leb _ _ c.if-line-gt514.false, ← c.all_digits.ensures, c.if-not-all_digits.false, le-leb _ _ c.if-line-lt2.false, ← c.read2-operation.ensures, ne_eqb _ _ c.if-operation-eq240.false, ne_eqb _ _ c.if-line-ne18.true)
+returns-then-line-ne18 c = simp (le-leb _ _ c.if-line-gt514.false, every_is, ← c.all_digits.ensures, c.if-not-all_digits.false, le-leb _ _ c.if-line-lt2.false, ← c.number-operation.ensures, ne_eqb _ _ c.if-operation-eq240.false, ne_eqb _ _ c.if-line-ne18.true)
 
 pub returns : goal.returns
 unfolding command frame require when◌then◌else◌
-returns c = simp (le-leb _ _ c.if-line-gt514.false, ← c.all_digits.ensures, c.if-not-all_digits.false, le-leb _ _ c.if-line-lt2.false, ← c.read2-operation.ensures, ne_eqb _ _ c.if-operation-eq240.false, eq-eqb _ _ c.if-line-ne18.false, ← c.read8.ensures, ← c.read8-2.ensures)
+returns c = simp (le-leb _ _ c.if-line-gt514.false, every_is, ← c.all_digits.ensures, c.if-not-all_digits.false, le-leb _ _ c.if-line-lt2.false, ← c.number-operation.ensures, ne_eqb _ _ c.if-operation-eq240.false, eq-eqb _ _ c.if-line-ne18.false, ← c.number.ensures, ← c.number-2.ensures)

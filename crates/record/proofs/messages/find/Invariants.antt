@@ -1,13 +1,9 @@
--- `find`: no message before i is on the link; the first that is, is the oldest. Assumes nothing.
+-- `find`: no message before j is on the link; the first that is, is the oldest. Assumes nothing.
 use mathlib.Core.Path.{◌≡◌}
-use Prim.Native.Nat.{◌≤◌, ◌-◌}
 use Rattle.lists.specs.Basics.{first}
 use Rattle.protocol.specs.Record.{read}
 use Rattle.protocol.specs.Step.{on_link}
 use Rattle.record.proofs.messages.find.Given as goal
 
 abbrev pub invariant-loop-j : goal.invariant-loop-j
-invariant-loop-j l = (l.j ≤ l.m) × (first (on_link (read l.w) l.x l.y) l.j ≡ l.j)
-
-abbrev pub decreases-loop-j : goal.decreases-loop-j
-decreases-loop-j l = l.m - l.j
+invariant-loop-j l = first (on_link (read l.w) l.x l.y) l.j ≡ l.j

@@ -21,17 +21,17 @@ settle_without-requires c =
     let a = c.args in
     let v = c.requires in
     let l = second_node a.w.now a.x a.y (sym c.both.ensures ∙ c.if-not-both.false) in
-    (c.if-j-m.true, v.waiting, omega (arith, v.nodes), v.long)
+    (c.in-Some.ensures.1, v.waiting, omega (arith, v.nodes), v.long)
 
-pub returns-then-j-m : goal.returns-then-j-m
+pub returns-in-Some : goal.returns-in-Some
 unfolding delivered
-returns-then-j-m c =
+returns-in-Some c =
     let a = c.args in
     let w = a.w.now in
-    let j = c.find-j.result in
+    let j = c.in-Some.j in
     let s = read w in
     let nodes = sym c.both.ensures ∙ c.if-not-both.false in
-    let lj = c.if-j-m.true in
+    let lj = c.in-Some.ensures.1 in
     let u = c.message_at-u in
     let h = c.row_of-h in
     let p = c.identifier_of-p in
@@ -42,7 +42,7 @@ returns-then-j-m c =
     ∙ ap (λ z. handle (identifier s z.pred) z g.result u.result) h.ensures
     ∙ ap (λ z. handle (identifier s (row s a.y).pred) (row s a.y) z u.result) g.ensures
     ∙ ap (λ z. handle (identifier s (row s a.y).pred) (row s a.y) (row s z.a) z) message_is in
-    ap (written w) (deliver_handled w a.x a.y nodes j c.find-j.ensures lj)
+    ap (written w) (deliver_handled w a.x a.y nodes j c.in-Some.ensures.0 lj)
     ∙ sym (ap (settled_without w (messages_in w) j a.y) decided ∙ settled_without_is w c.requires j a.y _ lj (second_node w a.x a.y nodes))
     ∙ c.settle_without.ensures
 
@@ -51,4 +51,4 @@ unfolding written
 returns c =
     let a = c.args in
     let nodes = sym c.both.ensures ∙ c.if-not-both.false in
-    ap (written a.w.now) (deliver_9 a.w.now a.x a.y nodes (rw c.find-j.ensures at c.if-j-m.false))
+    ap (written a.w.now) (deliver_9 a.w.now a.x a.y nodes (omega (arith, c.in_default.ensures)))

@@ -1,15 +1,24 @@
 -- `answer`: what is printed for the line is copied behind what waits. Assumes nothing.
 use native.Mathlib.Omega.{arith}
-use Prim.Native.Nat.{◌≤◌}
+use mathlib.Core.Path.{◌≡◌, refl}
+use Prim.Native.Nat.{◌+◌, ◌-◌, ◌≤◌}
 use lib.ListN.{length}
 use Rattle.stream.specs.Laws.{answered, rest_kept}
 use Rattle.stream.proofs.answering.answer.Goals as goal
 
 pub returns : goal.returns
 returns c =
-    let args = c.args in
-    let line = c.answer_line-printed in
-    let put = c.put in
-    let room : args.waiting ≤ length args.out.now = omega arith in
-    let all : line.result.count ≤ length line.result.bytes = omega (arith, line.ensures.1, line.ensures.2) in
-    (answered args.w.now args.line.now _ args.out.now _ args.waiting line.result line.ensures.0 put.ensures room all, omega arith, omega (arith, line.ensures.1), rest_kept args.w.now args.line.now _ args.out.now _ args.waiting line.result line.ensures.0 put.ensures room all)
+    let a = c.args in
+    let p = c.answer_line-printed in
+    let t = c.as_slice-text.ensures in
+    let n = length p.result in
+    let called = rw c.as_slice.ensures at p.ensures in
+    let room : a.waiting ≤ length a.out.now = omega arith in
+    let e : a.waiting + n - a.waiting ≡ n = omega arith in
+    let few : n ≤ 25 = rw t.bytes at t.few in
+    rw (c.copy_from_slice.ensures.after, t.bytes, e, c.clear.ensures) (
+      answered a.w.now a.line.now p.new.w a.out.now p.result a.waiting n called room refl,
+      omega arith,
+      omega arith,
+      rest_kept a.w.now a.line.now p.new.w a.out.now p.result a.waiting n called room refl,
+    )

@@ -1,23 +1,14 @@
 -- `finish`: the line that has begun, if one has, is the last. Assumes nothing.
-use borrow.Author.Rules.{rules}
 use native.Mathlib.Omega.{arith}
-use mathlib.Core.Path.{refl, sym}
-use lib.Seq.{length-take-le}
+use mathlib.Core.Path.{refl, ap, ◌∙◌}
+use lib.ListN.{length}
 use Rattle.stream.specs.Laws.{nothing_begun, last_line}
 use Rattle.stream.proofs.taking.finish.Goals as goal
 
 pub returns-then-held-eq0 : goal.returns-then-held-eq0
-returns-then-held-eq0 c =
-    let args = c.args in
-    (nothing_begun args.w.now args.line.now args.held c.if-held-eq0.true, search rules, refl)
-
-pub slice_bounds-answer-end : goal.slice_bounds-answer-end
-slice_bounds-answer-end c =
-    let args = c.args in
-    sym (length-take-le args.held args.line.now (omega arith))
+returns-then-held-eq0 c = (nothing_begun c.args.w.now c.args.line.now (rw c.as_slice-held.ensures at c.if-held-eq0.true), omega arith, refl)
 
 pub returns : goal.returns
 returns c =
-    let args = c.args in
-    let answer = c.answer in
-    (last_line args.w.now args.line.now args.held c.if-held-eq0.false (omega arith) _ answer.ensures.0, search rules, answer.ensures.3)
+    let a = c.answer.ensures in
+    (last_line c.args.w.now c.args.line.now (λ z. c.if-held-eq0.false (ap length c.as_slice-held.ensures ∙ z)) _ a.0, omega arith, a.3)

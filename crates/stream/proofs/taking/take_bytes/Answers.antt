@@ -1,32 +1,40 @@
--- `take_bytes`: line by line, what is still to be taken leads to what the whole piece does. Assumes nothing.
-use borrow.Author.Rules.{rules}
+-- `take_bytes`: line by line, what is left to be taken leads to what the whole piece does. Assumes nothing.
 use native.Mathlib.Omega.{arith}
 use mathlib.Core.Path.{refl, ◌∙◌}
+use mathlib.Core.Bool.{true, false}
+use mathlib.Core.List.{[]}
 use lib.ListN.{take}
 use Rattle.stream.specs.Pieces.{taken}
-use Rattle.stream.specs.Laws.{drop_further, all_taken}
+use Rattle.stream.specs.Laws.{drop_further, line_ends, line_goes_on, all_taken}
 use Rattle.stream.proofs.taking.take_bytes.Goals as goal
 
-pub loop-at-init : goal.loop-at-init
+pub loop-rest-init : goal.loop-rest-init
 unfolding taken
-loop-at-init c = (refl, search rules, search rules, search rules, refl, refl, refl, refl)
+loop-rest-init c = record { same = refl; room = omega arith; kept = refl }
 
-pub loop-at-preserved : goal.loop-at-preserved
-loop-at-preserved c =
-    let loop = c.loop-at in
-    let line = c.take_line-t in
-    (loop.invariant.0 ∙ line.ensures.0, line.ensures.1, line.ensures.3, omega (arith, line.ensures.4, loop.invariant.7), line.ensures.6 ∙ drop_further loop.waiting line.result.waiting loop.out _ line.ensures.5 loop.invariant.4, line.auto.w ∙ loop.invariant.5, line.auto.line ∙ loop.invariant.6, line.auto.out ∙ loop.invariant.7)
+pub answer-waiting-requires : goal.answer-waiting-requires
+answer-waiting-requires c = omega (arith, c.in-Some.ensures.bytes.1)
 
-pub shape_of-w : goal.shape_of-w
-shape_of-w c = c.loop-at.invariant.5
+pub loop-rest-smaller : goal.loop-rest-smaller
+loop-rest-smaller c = c.in-Some.ensures.bytes.1
 
-pub shape_of-line : goal.shape_of-line
-shape_of-line c = c.loop-at.invariant.6
-
-pub shape_of-out : goal.shape_of-out
-shape_of-out c = c.loop-at.invariant.7
+pub loop-rest-preserved : goal.loop-rest-preserved
+loop-rest-preserved c =
+    let l = c.loop-rest in
+    let line = c.in-Some.ensures.bytes in
+    let a = c.answer-waiting.ensures in
+    record {
+      same = l.invariant.same ∙ line_ends l.w l.line (take l.waiting l.out) l.left.now c.gather.new.self c.in-Some.rest.now true line.0 refl _ a.0;
+      room = omega (arith, line.1);
+      kept = a.3 ∙ drop_further l.waiting c.answer-waiting.result l.out c.args.out.now a.1 l.invariant.kept;
+    }
 
 pub returns : goal.returns
 returns c =
-    let loop = c.loop-at in
-    (loop.invariant.0 ∙ all_taken loop.w loop.line (take loop.waiting loop.out) c.args.input.now loop.begun loop.at c.loop-at-test.false loop.invariant.2 loop.invariant.1, loop.invariant.1, search rules, loop.invariant.4)
+    let l = c.loop-rest in
+    let line = c.in_default.ensures in
+    (
+      l.invariant.same ∙ line_goes_on l.w l.line (take l.waiting l.out) l.left.now c.gather.new.self [] false line.bytes refl ∙ all_taken l.w c.gather.new.self (take l.waiting l.out) line.few,
+      omega arith,
+      l.invariant.kept,
+    )
