@@ -1,13 +1,14 @@
 -- What is known of a name before it is written, and the room that its row takes. Assumes nothing.
-use Rattle.std.specs.Prelude.{◌≡◌, refl, Bool, true, false, ◌&&◌, List, [], ◌∷◌, ◌++◌, Option, None, Some, max, ◌*◌, ◌^◌, cond, count_by, nat_eq, nat_lt}
+use Rattle.std.specs.Prelude.{◌≡◌, refl, Bool, true, false, ◌&&◌, List, [], ◌∷◌, ◌++◌, Option, None, Some, max, ◌*◌, ◌^◌, nat_eq, nat_lt}
 use Rattle.std.specs.Option.{SomeIff}
 use Rattle.std.specs.List.{slice_get}
-use Rattle.std.proofs.lemmas.List.Recursion.{is_count_by}
 use Rattle.std.proofs.lemmas.Option.{slice_get-get_or}
 use Rattle.std.proofs.Math.Path.{ap, sym}
 use Rattle.std.proofs.Common.{ap₂, ◌∙◌, append-nil, ltb-true, ltb-false, lt-ltb, le-ltb, length-append}
 use Prim.Native.Nat.{ℕ, zero, suc, ◌+◌, ◌-◌, ◌≤◌, ◌<◌}
+use mir.Val.{bool_byte}
 use native.Mathlib.Omega.{arith}
+use Rattle.std.proofs.Common.{drop_of_length-le}
 use Rattle.std.proofs.Math.ListN.{length, take, get_or}
 use Rattle.lists.specs.Basics.{when◌then◌else◌, every}
 use Rattle.lists.specs.Choice.{choose}
@@ -144,21 +145,11 @@ module _ (s : List ℕ) (p : Bool) (e : p ≡ every bare s) where
       let z = length-append (name_text s) (comma ∷ (last_digits (digit_count v) v ++ (cr ∷ lf ∷ []))) in
       omega arith
 
--- what a chain over the bytes counts and looks for
-when_cond : {X : Type 0} (t : Bool) (a b : X) → (when t then a else b) ≡ cond t a b
+-- a test as a number
+pub byte_one : (t : Bool) → bool_byte t ≡ one t
 unfolding when◌then◌else◌
-when_cond true a b = refl
-when_cond false a b = refl
-
-pub zeros_counted : (s : List ℕ) → zeros s ≡ count_by (λ b. nat_eq b 0) s
-unfolding zeros
-zeros_counted s = is_count_by zeros (λ b. nat_eq b 0) none more s
-  where
-    none : zeros [] ≡ 0
-    none = refl
-
-    more : (b : ℕ) (s : List ℕ) → zeros (b ∷ s) ≡ cond (nat_eq b 0) (1 + zeros s) (zeros s)
-    more b s = when_cond (nat_eq b 0) (1 + zeros s) (zeros s)
+byte_one true = refl
+byte_one false = refl
 
 pub one_small : (t : Bool) → one t ≤ 1
 unfolding when◌then◌else◌
@@ -168,6 +159,26 @@ one_small false = omega arith
 and_assoc : (a b c : Bool) → (a && (b && c)) ≡ ((a && b) && c)
 and_assoc true b c = refl
 and_assoc false b c = refl
+
+zeros_head : (b : ℕ) (s : List ℕ) → zeros (b ∷ s) ≡ one (nat_eq b 0) + zeros s
+unfolding zeros when◌then◌else◌
+zeros_head b s = go (nat_eq b 0)
+  where
+    go : (t : Bool) → (when t then 1 + zeros s else zeros s) ≡ one t + zeros s
+    go true = refl
+    go false = omega arith
+
+-- counting zero bytes
+pub zeros_more : (l : List ℕ) (i n : ℕ) → i < length l → zeros l ≡ n + zeros (drop i l) → zeros l ≡ n + one (nat_eq (get_or l i 0) 0) + zeros (drop (i + 1) l)
+zeros_more l i n h e =
+    let b = get_or l i 0 in
+    let z : zeros (drop i l) ≡ one (nat_eq b 0) + zeros (drop (suc i) l) = ap zeros (drop-cons l i 0 h) ∙ zeros_head b (drop (suc i) l) in
+    let f : zeros (drop (i + 1) l) ≡ zeros (drop (suc i) l) = ap (λ n. zeros (drop n l)) (add-one i) in
+    omega arith
+
+pub zeros_all : (l : List ℕ) (i n : ℕ) → length l ≤ i → zeros l ≡ n + zeros (drop i l) → n ≡ zeros l
+unfolding zeros
+zeros_all l i n h e = sym (e ∙ ap (λ s. n + zeros s) (drop_of_length-le l h) ∙ add-zero n)
 
 -- What is known of the first name of the bytes l after i of its bytes: what is counted, and what is left.
 pub record Scanning (l : List ℕ) (i q : ℕ) (p : Bool) : Type 0 where
