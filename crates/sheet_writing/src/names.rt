@@ -7,7 +7,7 @@ ghost use Rattle.sheet_writing.specs.Scanning.{quotes as quotes_spec, scanned};
 
 use sheets::{QUOTE, bare};
 
-// A loop over all of the names, since the chain that filters and counts makes writing a sheet take 1.08 times as long.
+// A `for`, since the chain that filters and counts makes writing a sheet take 1.09 times as long.
 fn zeros(names: &[u8]) -> usize
     ensures { result ≡ zeros_spec names.now }
 {
@@ -41,7 +41,7 @@ struct Scan {
     plain: bool,
 }
 
-// All three in one pass: a chain for each, three in all, makes writing a sheet take 1.4 times as long.
+// All three in one pass: a chain for each, three in all, makes writing a sheet take 1.3 times as long.
 fn scan_name(names: &[u8]) -> Scan
     ensures { result ≡ scanned (first_name names.now) }
 {
