@@ -10,7 +10,9 @@ use Rattle.lists.specs.Basics.{when◌then◌else◌, require, every}
 use Rattle.lists.specs.Choice.{on_yes, on_no}
 use Rattle.lists.specs.Splice.{splice}
 use Rattle.protocol.specs.Frames.{print2, print4, print8, refusal_text}
-use Rattle.protocol.specs.Names.{NO_SHEET, IDENTIFIER_TOO_LARGE, ROOM_SHORT}
+use Rattle.protocol.specs.declared.refusal.Refusal.{Refusal}
+use Rattle.protocol.specs.declared.refusal.Refusal.TheVariants.{NoSheet, IdentifierTooLarge, RoomShort}
+use Rattle.protocol.specs.Refusals.{number_of}
 use Rattle.sheets.specs.declared.Ending.{Ending}
 use Rattle.sheets.specs.declared.Ending.TheVariants.{Within, BehindRows, BehindNumber}
 use Rattle.sheets.specs.Reader.{Reader, Said, nothing, lists, ending, ended_as, ended}
@@ -24,16 +26,16 @@ unfoldable pub eights : List ℕ → List ℕ
 eights [] = []
 eights (v ∷ l) = print8 v ++ eights l
 
-unfoldable pub refusal_line : ℕ → List ℕ
-refusal_line k = refusal_text k ++ (10 ∷ [])
+unfoldable pub refusal_line : Refusal → List ℕ
+refusal_line k = refusal_text (number_of k) ++ (10 ∷ [])
 
 unfoldable pub founding_line : List ℕ → List ℕ
 founding_line ids = (print2 240 ++ eights ids) ++ (10 ∷ [])
 
 -- What is printed for what a text says. A ring has 64 hubs at most, so there are 64 places.
 unfoldable pub hub_line : Said → List ℕ
-hub_line nothing = refusal_line NO_SHEET
-hub_line (lists n i) = require (every is_word i) (refusal_line IDENTIFIER_TOO_LARGE) (require (nat_le (length i) 64) (refusal_line ROOM_SHORT) (founding_line i))
+hub_line nothing = refusal_line NoSheet
+hub_line (lists n i) = require (every is_word i) (refusal_line IdentifierTooLarge) (require (nat_le (length i) 64) (refusal_line RoomShort) (founding_line i))
 
 pub length_print2 : (v : ℕ) → length (print2 v) ≡ 2
 unfolding print2
@@ -95,14 +97,14 @@ founding_small l h = let b = founding_length l in omega arith
 
 -- The same of what is held at the end.
 unfoldable pub rows_line : Bool → ℕ → List ℕ → List ℕ
-rows_line fits rows ids = require fits (refusal_line IDENTIFIER_TOO_LARGE) (require (nat_le rows 64) (refusal_line ROOM_SHORT) (founding_line (take rows ids)))
+rows_line fits rows ids = require fits (refusal_line IdentifierTooLarge) (require (nat_le rows 64) (refusal_line RoomShort) (founding_line (take rows ids)))
 
 rows_line_lem : (n l ids : List ℕ) (rows : ℕ) (fits : Bool) → fits ≡ every is_word l → rows ≡ min (length l) 65 → length ids ≡ 64 → take (min (length l) 64) ids ≡ take 64 (words l)
     → rows_line fits rows ids ≡ hub_line (lists n l)
 unfolding rows_line hub_line require when◌then◌else◌
 rows_line_lem n l ids rows fits f r k e = rw f (go (every is_word l) refl)
   where
-    few : every is_word l ≡ true → (b : Bool) → nat_le (length l) 64 ≡ b → require (nat_le rows 64) (refusal_line ROOM_SHORT) (founding_line (take rows ids)) ≡ require (nat_le (length l) 64) (refusal_line ROOM_SHORT) (founding_line l)
+    few : every is_word l ≡ true → (b : Bool) → nat_le (length l) 64 ≡ b → require (nat_le rows 64) (refusal_line RoomShort) (founding_line (take rows ids)) ≡ require (nat_le (length l) 64) (refusal_line RoomShort) (founding_line l)
     few w true q =
         let h : length l ≤ 64 = leb-true _ _ q in
         let x : rows ≡ length l = omega arith in
@@ -113,7 +115,7 @@ rows_line_lem n l ids rows fits f r k e = rw f (go (every is_word l) refl)
         let h : 64 < length l = leb-false _ _ q in
         on_no (nat_le rows 64) _ _ (lt-leb rows 64 (omega arith)) ∙ sym (on_no (nat_le (length l) 64) _ _ q)
 
-    go : (b : Bool) → every is_word l ≡ b → require b (refusal_line IDENTIFIER_TOO_LARGE) (require (nat_le rows 64) (refusal_line ROOM_SHORT) (founding_line (take rows ids))) ≡ require b (refusal_line IDENTIFIER_TOO_LARGE) (require (nat_le (length l) 64) (refusal_line ROOM_SHORT) (founding_line l))
+    go : (b : Bool) → every is_word l ≡ b → require b (refusal_line IdentifierTooLarge) (require (nat_le rows 64) (refusal_line RoomShort) (founding_line (take rows ids))) ≡ require b (refusal_line IdentifierTooLarge) (require (nat_le (length l) 64) (refusal_line RoomShort) (founding_line l))
     go true q = few q (nat_le (length l) 64) refl
     go false q = refl
 
@@ -129,7 +131,7 @@ module _ (h : Hubs) (ids : List ℕ) (e : Ending) (is : e ≡ ending h.place) (m
   unfolding ended
   ended_as_lem = ap (λ x. ended_as x m) (ap ending (sym k.place_is) ∙ sym is)
 
-  pub line_within : e ≡ Within → refusal_line NO_SHEET ≡ hub_line (ended m)
+  pub line_within : e ≡ Within → refusal_line NoSheet ≡ hub_line (ended m)
   unfolding ended_as hub_line
   line_within q = sym (ap hub_line (ended_as_lem ∙ ap (λ x. ended_as x m) q))
 

@@ -5,19 +5,19 @@ ghost use Rattle.hubsheet.specs.Line.{refusal_line, founding_line, rows_line, Pr
 
 use crate::hubs::{Held, PLACES, counted};
 use crate::places::ending;
-use frames::{put2, put8};
-use protocol::refusals;
+use frames::put;
+use protocol::Refusal;
 use sheets::{Ending, put_byte};
 
 // The longest line: a frame of 64 hubs has 515 bytes with its LF.
 pub const LINE: usize = 516;
 
 // EE and the number.
-fn put_refusal(out: &mut [u8; LINE], number: u32) -> usize
-    ensures { (result ≡ length (refusal_line number)) × (out.new ≡ laid out.old (refusal_line number)) }
+fn put_refusal(out: &mut [u8; LINE], why: Refusal) -> usize
+    ensures { (result ≡ length (refusal_line why)) × (out.new ≡ laid out.old (refusal_line why)) }
 {
-    put2(out, 0, 238);
-    put2(out, 2, number);
+    put(&mut out[0..2], 238);
+    put(&mut out[2..4], u32::from(why));
     put_byte(out, 4, 10);
     5
 }
@@ -27,9 +27,10 @@ fn put_founding(out: &mut [u8; LINE], identifiers: &[u32]) -> usize
     requires { length identifiers.now ≤ 64 }
     ensures { (result ≡ length (founding_line identifiers.now)) × (out.new ≡ laid out.old (founding_line identifiers.now)) }
 {
-    put2(out, 0, 240);
+    put(&mut out[0..2], 240);
     for (i, identifier) in identifiers.iter().enumerate() {
-        put8(out, 2 + 8 * i, *identifier);
+        let at = 2 + 8 * i;
+        put(&mut out[at..at + 8], *identifier);
     }
     let end = 2 + 8 * identifiers.len();
     put_byte(out, end, 10);
@@ -41,10 +42,10 @@ fn put_rows(out: &mut [u8; LINE], fits: bool, rows: usize, identifiers: &[u32; P
     ensures { (result ≤ 516) × (result ≡ length (rows_line fits rows identifiers.now)) × (out.new ≡ laid out.old (rows_line fits rows identifiers.now)) }
 {
     if !fits {
-        return put_refusal(out, refusals::IDENTIFIER_TOO_LARGE);
+        return put_refusal(out, Refusal::IdentifierTooLarge);
     }
     if PLACES < rows {
-        return put_refusal(out, refusals::ROOM_SHORT);
+        return put_refusal(out, Refusal::RoomShort);
     }
     put_founding(out, &identifiers[..rows])
 }
@@ -55,7 +56,7 @@ pub fn put_line(held: &mut Held, out: &mut [u8; LINE]) -> usize
 {
     let h = held.hubs;
     match ending(h.place) {
-        Ending::Within => put_refusal(out, refusals::NO_SHEET),
+        Ending::Within => put_refusal(out, Refusal::NoSheet),
         Ending::BehindRows => put_rows(out, h.fits, h.rows, &held.identifiers),
         Ending::BehindNumber => {
             held.keep();

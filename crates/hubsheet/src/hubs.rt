@@ -41,23 +41,17 @@ pub fn counted(rows: usize) -> usize
 fn after(e: Effect, h: Hubs, q: Place, b: u8) -> Hubs
     ensures { result ≡ after_spec e h q b }
 {
-    let moved = Hubs { place: q, ..h };
+    let mut moved = Hubs { place: q, ..h };
     match e {
-        Effect::Quiet | Effect::Letter => moved,
-        Effect::EndName => Hubs {
-            value: Some(0),
-            ..moved
-        },
-        Effect::Figure => Hubs {
-            value: grown(h.value, b),
-            ..moved
-        },
-        Effect::EndRow => Hubs {
-            rows: counted(h.rows),
-            fits: h.fits & h.value.is_some(),
-            ..moved
-        },
+        Effect::Quiet | Effect::Letter => {}
+        Effect::EndName => moved.value = Some(0),
+        Effect::Figure => moved.value = grown(h.value, b),
+        Effect::EndRow => {
+            moved.rows = counted(h.rows);
+            moved.fits &= h.value.is_some();
+        }
     }
+    moved
 }
 
 // All that is held of a sheet: where it stands, and the identifiers of its rows.

@@ -1,23 +1,29 @@
 -- What is known of a name before it is written, and the room that its row takes. Assumes nothing.
-use Rattle.std.specs.Prelude.{◌≡◌, refl, Bool, true, false, not, ◌&&◌, List, [], ◌∷◌, ◌++◌, Option, None, Some, max, ◌*◌, ◌^◌, cond, count_by, position, nat_eq, nat_lt}
-use Rattle.std.specs.Option.{SomeIff, unwrap_or}
-use Rattle.std.specs.List.{position_or_len, list_all, slice_get}
-use Rattle.std.proofs.lemmas.List.Recursion.{is_count_by}
-use Rattle.std.proofs.lemmas.List.Sums.{prefix_len-le-length}
-use Rattle.std.proofs.lemmas.List.Folds.{length-prefix_len}
+use Rattle.std.specs.Prelude.{◌≡◌, refl, Bool, true, false, ◌&&◌, List, [], ◌∷◌, ◌++◌, Option, None, Some, max, ◌*◌, ◌^◌, nat_eq, nat_lt}
+use Rattle.std.specs.Option.{SomeIff}
+use Rattle.std.specs.List.{slice_get}
 use Rattle.std.proofs.lemmas.Option.{slice_get-get_or}
 use Rattle.std.proofs.Math.Path.{ap, sym}
 use Rattle.std.proofs.Common.{ap₂, ◌∙◌, append-nil, ltb-true, ltb-false, lt-ltb, le-ltb, length-append}
 use Prim.Native.Nat.{ℕ, zero, suc, ◌+◌, ◌-◌, ◌≤◌, ◌<◌}
+use mir.Val.{bool_byte}
 use native.Mathlib.Omega.{arith}
+use Rattle.std.proofs.Common.{drop_of_length-le}
 use Rattle.std.proofs.Math.ListN.{length, take, get_or}
 use Rattle.lists.specs.Basics.{when◌then◌else◌, every}
 use Rattle.lists.specs.Choice.{choose}
 use Rattle.lists.specs.Tests.{says_same, says_as, says_lt}
+use Rattle.sheet_writing.specs.declared.names.Scan.{Scan}
 use Rattle.sheets.specs.Grammar.{quote, comma, cr, lf, bare, doubled}
 use Rattle.sheets.specs.Writer.{name_text, last_digits, digit_count, decimal, row_text, first_name, zeros, ends_well}
 use Rattle.sheets.specs.Bytes.{every_head, every_tail, bare_quote}
 use Rattle.sheets.specs.Decimal.{length_last}
+use Rattle.std.proofs.Common.{add-one, eq-eqb, ne_eqb, drop-cons}
+use Rattle.std.proofs.Math.Nat.{add-zero}
+use Rattle.std.proofs.Math.ListN.{drop}
+use Rattle.std.proofs.Math.Seq.{drop-length}
+use Rattle.lists.specs.Tests.{and_true}
+use Rattle.sheets.specs.Buffers.{first_zero, first_more}
 
 abbrev pub one : Bool → ℕ
 one t = when t then 1 else 0
@@ -25,6 +31,9 @@ one t = when t then 1 else 0
 unfoldable pub quotes : List ℕ → ℕ
 quotes [] = 0
 quotes (b ∷ s) = one (nat_eq b quote) + quotes s
+
+unfoldable pub scanned : List ℕ → Scan
+scanned s = record { length = length s; quotes = quotes s; plain = every bare s }
 
 -- the quote before and behind a name that may not stand unquoted
 unfoldable pub quote_if : Bool → List ℕ
@@ -136,54 +145,114 @@ module _ (s : List ℕ) (p : Bool) (e : p ≡ every bare s) where
       let z = length-append (name_text s) (comma ∷ (last_digits (digit_count v) v ++ (cr ∷ lf ∷ []))) in
       omega arith
 
--- what a chain over the bytes counts and looks for
-when_cond : {X : Type 0} (t : Bool) (a b : X) → (when t then a else b) ≡ cond t a b
+-- a test as a number
+pub byte_one : (t : Bool) → bool_byte t ≡ one t
 unfolding when◌then◌else◌
-when_cond true a b = refl
-when_cond false a b = refl
+byte_one true = refl
+byte_one false = refl
 
-pub zeros_counted : (s : List ℕ) → zeros s ≡ count_by (λ b. nat_eq b 0) s
+pub one_small : (t : Bool) → one t ≤ 1
+unfolding when◌then◌else◌
+one_small true = omega arith
+one_small false = omega arith
+
+and_assoc : (a b c : Bool) → (a && (b && c)) ≡ ((a && b) && c)
+and_assoc true b c = refl
+and_assoc false b c = refl
+
+zeros_head : (b : ℕ) (s : List ℕ) → zeros (b ∷ s) ≡ one (nat_eq b 0) + zeros s
+unfolding zeros when◌then◌else◌
+zeros_head b s = go (nat_eq b 0)
+  where
+    go : (t : Bool) → (when t then 1 + zeros s else zeros s) ≡ one t + zeros s
+    go true = refl
+    go false = omega arith
+
+-- counting zero bytes
+pub zeros_more : (l : List ℕ) (i n : ℕ) → i < length l → zeros l ≡ n + zeros (drop i l) → zeros l ≡ n + one (nat_eq (get_or l i 0) 0) + zeros (drop (i + 1) l)
+zeros_more l i n h e =
+    let b = get_or l i 0 in
+    let z : zeros (drop i l) ≡ one (nat_eq b 0) + zeros (drop (suc i) l) = ap zeros (drop-cons l i 0 h) ∙ zeros_head b (drop (suc i) l) in
+    let f : zeros (drop (i + 1) l) ≡ zeros (drop (suc i) l) = ap (λ n. zeros (drop n l)) (add-one i) in
+    omega arith
+
+pub zeros_all : (l : List ℕ) (i n : ℕ) → length l ≤ i → zeros l ≡ n + zeros (drop i l) → n ≡ zeros l
 unfolding zeros
-zeros_counted s = is_count_by zeros (λ b. nat_eq b 0) none more s
+zeros_all l i n h e = sym (e ∙ ap (λ s. n + zeros s) (drop_of_length-le l h) ∙ add-zero n)
+
+-- What is known of the first name of the bytes l after i of its bytes: what is counted, and what is left.
+pub record Scanning (l : List ℕ) (i q : ℕ) (p : Bool) : Type 0 where
+  pub lengths : length (first_name l) ≡ i + length (first_name (drop i l))
+  pub quotes_are : quotes (first_name l) ≡ q + quotes (first_name (drop i l))
+  pub plain_is : every bare (first_name l) ≡ (p && every bare (first_name (drop i l)))
+  pub few : q ≤ i
+
+pub scan_none : (l : List ℕ) → Scanning l 0 0 true
+scan_none l = record { lengths = omega arith; quotes_are = omega arith; plain_is = refl; few = omega arith }
+
+module _ (l : List ℕ) (i q : ℕ) (p : Bool) (k : Scanning l i q p) where
+  -- the name ends here
+  scan_end : first_name (drop i l) ≡ [] → record { length = i; quotes = q; plain = p } ≡ scanned (first_name l)
+  unfolding scanned quotes every
+  scan_end e =
+      let a : length (first_name l) ≡ i = k.lengths ∙ ap (λ s. i + length s) e ∙ add-zero i in
+      let b : quotes (first_name l) ≡ q = k.quotes_are ∙ ap (λ s. q + quotes s) e ∙ add-zero q in
+      let c : every bare (first_name l) ≡ p = k.plain_is ∙ ap (λ s. p && every bare s) e ∙ and_true p in
+      λ j. record { length = sym a j; quotes = sym b j; plain = sym c j }
+
+  pub scan_out : i ≡ length l → record { length = i; quotes = q; plain = p } ≡ scanned (first_name l)
+  unfolding first_name
+  scan_out e = scan_end (ap (λ n. first_name (drop n l)) e ∙ ap first_name (drop-length l))
+
+  module _ (h : i < length l) where
+    pub scan_zero : get_or l i 0 ≡ 0 → record { length = i; quotes = q; plain = p } ≡ scanned (first_name l)
+    scan_zero e = scan_end (ap first_name (drop-cons l i 0 h) ∙ (first_zero (get_or l i 0) (drop (suc i) l) (eq-eqb (get_or l i 0) 0 e)).0)
+
+    pub scan_more : (get_or l i 0 ≡ 0 → ⊥) → Scanning l (i + 1) (q + one (nat_eq (get_or l i 0) quote)) (p && bare (get_or l i 0))
+    unfolding quotes every
+    scan_more n =
+        let b = get_or l i 0 in
+        let r = drop (suc i) l in
+        let e : first_name (drop i l) ≡ b ∷ first_name r = ap first_name (drop-cons l i 0 h) ∙ (first_more b r (ne_eqb b 0 n)).0 in
+        let f : drop (i + 1) l ≡ r = ap (λ n. drop n l) (add-one i) in
+        let x : length (first_name l) ≡ i + suc (length (first_name r)) = k.lengths ∙ ap (λ s. i + length s) e in
+        let y : quotes (first_name l) ≡ q + (one (nat_eq b quote) + quotes (first_name r)) = k.quotes_are ∙ ap (λ s. q + quotes s) e in
+        let z : every bare (first_name l) ≡ (p && (bare b && every bare (first_name r))) = k.plain_is ∙ ap (λ s. p && every bare s) e in
+        let o = one_small (nat_eq b quote) in
+        let w = k.few in
+        record {
+          lengths = (let g : length (first_name l) ≡ i + 1 + length (first_name r) = omega arith in g) ∙ ap (λ s. i + 1 + length (first_name s)) (sym f);
+          quotes_are = (let g : quotes (first_name l) ≡ q + one (nat_eq b quote) + quotes (first_name r) = omega arith in g) ∙ ap (λ s. q + one (nat_eq b quote) + quotes (first_name s)) (sym f);
+          plain_is = z ∙ and_assoc p (bare b) (every bare (first_name r)) ∙ ap (λ s. (p && bare b) && every bare (first_name s)) (sym f);
+          few = omega arith;
+        }
+
+-- a name is the bytes before its zero byte
+pub first_take : (l : List ℕ) → take (length (first_name l)) l ≡ first_name l
+unfolding first_name when◌then◌else◌
+first_take [] = refl
+first_take (b ∷ l) = go (nat_eq b 0) (first_take l)
   where
-    none : zeros [] ≡ 0
-    none = refl
-
-    more : (b : ℕ) (s : List ℕ) → zeros (b ∷ s) ≡ cond (nat_eq b 0) (1 + zeros s) (zeros s)
-    more b s = when_cond (nat_eq b 0) (1 + zeros s) (zeros s)
-
-pub quotes_counted : (s : List ℕ) → quotes s ≡ count_by (λ b. nat_eq b quote) s
-unfolding quotes when◌then◌else◌
-quotes_counted s = is_count_by quotes (λ b. nat_eq b quote) none more s
-  where
-    none : quotes [] ≡ 0
-    none = refl
-
-    more : (b : ℕ) (s : List ℕ) → quotes (b ∷ s) ≡ cond (nat_eq b quote) (1 + quotes s) (quotes s)
-    more b s = elim (nat_eq b quote) as (λ t. one t + quotes s ≡ cond t (1 + quotes s) (quotes s)) [ true ↦ refl | false ↦ omega arith ]
-
-pub first_taken : (s : List ℕ) → first_name s ≡ take (position_or_len (λ b. nat_eq b 0) s) s
-unfolding first_name
-first_taken [] = refl
-first_taken (b ∷ s) = when_cond (nat_eq b 0) [] (b ∷ first_name s) ∙ elim (nat_eq b 0) as (λ t. cond t [] (b ∷ first_name s) ≡ take (cond (not t) (1 + position_or_len (λ b. nat_eq b 0) s) 0) (b ∷ s)) [ true ↦ refl | false ↦ ap (λ l. b ∷ l) (first_taken s) ∙ ap (λ n. take n (b ∷ s)) (suc_one (position_or_len (λ b. nat_eq b 0) s)) ]
-  where
-    suc_one : (n : ℕ) → suc n ≡ 1 + n
-    suc_one n = omega arith
-
-pub first_end : (s : List ℕ) → unwrap_or (position (λ b. nat_eq b 0) s) (length s) ≡ length (first_name s)
-first_end s = go (nat_lt (position_or_len (λ b. nat_eq b 0) s) (length s)) refl ∙ sym (length-prefix_len (λ b. not (nat_eq b 0)) s) ∙ sym (ap length (first_taken s))
-  where
-    go : (t : Bool) → nat_lt (position_or_len (λ b. nat_eq b 0) s) (length s) ≡ t → unwrap_or (cond t (Some (position_or_len (λ b. nat_eq b 0) s)) None) (length s) ≡ position_or_len (λ b. nat_eq b 0) s
+    go : (t : Bool) → take (length (first_name l)) l ≡ first_name l → take (length (when t then [] else b ∷ first_name l)) (b ∷ l) ≡ (when t then [] else b ∷ first_name l)
     go true e = refl
-    go false e = let a = ltb-false _ _ e in let b = prefix_len-le-length (λ b. not (nat_eq b 0)) s in omega arith
+    go false e = ap (λ k. b ∷ k) e
 
-pub first_take : (s : List ℕ) → take (length (first_name s)) s ≡ first_name s
-first_take s = ap (λ n. take n s) (ap length (first_taken s) ∙ length-prefix_len (λ b. not (nat_eq b 0)) s) ∙ sym (first_taken s)
+-- what a scan says of the name
+module _ (names : List ℕ) (s : Scan) (e : s ≡ scanned (first_name names)) where
+  pub scan_length : s.length ≡ length (first_name names)
+  unfolding scanned
+  scan_length = ap (λ s. s.length) e
 
-pub every_looked : (s : List ℕ) → every bare s ≡ list_all bare s
-unfolding every
-every_looked [] = refl
-every_looked (b ∷ s) = ap (λ t. bare b && t) (every_looked s)
+  pub scan_quotes : s.quotes ≡ quotes (first_name names)
+  unfolding scanned
+  scan_quotes = ap (λ s. s.quotes) e
+
+  pub scan_plain : s.plain ≡ every bare (first_name names)
+  unfolding scanned
+  scan_plain = ap (λ s. s.plain) e
+
+  pub scan_bytes : take s.length names ≡ first_name names
+  scan_bytes = ap (λ n. take n names) scan_length ∙ first_take names
 
 -- the last byte, if there is one
 pub ends_last : (l : List ℕ) (b : ℕ) → Some b ≡ slice_get l (length l - 1) → nat_eq b 0 ≡ ends_well l

@@ -1,7 +1,7 @@
 -- What is written so far: digits from the last on, a name byte by byte, row by row. Assumes nothing.
-use Rattle.std.specs.Prelude.{◌≡◌, refl, Bool, true, false, List, [], ◌∷◌, ◌++◌, Option, ℕ, zero, suc, ◌+◌, ◌-◌, ◌/◌, ◌%◌, ◌≤◌, ◌<◌, nat_eq, map, length, take, set, Err}
+use Rattle.std.specs.Prelude.{◌≡◌, refl, Bool, true, false, List, [], ◌∷◌, ◌++◌, Option, None, Some, ℕ, zero, suc, ◌+◌, ◌-◌, ◌/◌, ◌%◌, ◌≤◌, ◌<◌, nat_eq, map, length, take, set, Err}
 use Rattle.std.proofs.Math.Path.{ap, ap₂}
-use Rattle.std.proofs.Common.{sym, ◌∙◌, subst, append_assoc, append-nil, add-zero, add-one, arith, le-leb, length-append, length-set, take-append-drop, take-suc, drop-cons, drop_at, get_or-set_same, drop-set-lt, take-take, take_all, drop_of_length-le}
+use Rattle.std.proofs.Common.{sym, ◌∙◌, subst, append_assoc, append-nil, add-zero, add-one, arith, le-leb, length-append, length-set, take-append-drop, take-suc, drop-cons, drop_at, get_or-set_same, drop-set-lt, take-take, drop_of_length-le}
 use Rattle.std.proofs.lemmas.Bool.{lt-leb}
 use Rattle.std.proofs.Math.Dec.{eqb→eq}
 use Rattle.std.proofs.Math.ListN.{drop, get_or}
@@ -26,9 +26,6 @@ pub record Digits (w t : List ℕ) (at count v left rest : ℕ) : Type 0 where
   pub behind : last_digits left rest ++ drop (at + left) t ≡ last_digits count v ++ drop (at + count) w
   pub before : take (at + left) t ≡ take (at + left) w
   pub same : length t ≡ length w
-
-pub digits_none : (w : List ℕ) (at count v : ℕ) → Digits w w at count v count v
-digits_none w at count v = record { within = omega arith; behind = refl; before = refl; same = refl }
 
 drop_set_here : (l : List ℕ) (k d : ℕ) → k < length l → drop k (set l k d) ≡ d ∷ drop (suc k) l
 drop_set_here l k d h = drop-cons (set l k d) k 0 (simp length-set h) ∙ ap₂ (λ x y. x ∷ y) (get_or-set_same l k d 0 h) (drop-set-lt (suc k) l k d (omega arith))
@@ -120,9 +117,6 @@ doubling_more w t l at i to h fits d =
       text_is = ap₂ (λ y a. splice y a x) d.text_is p ∙ splice_twice w s x at (omega arith) ∙ ap (splice w at) (sym e);
     }
 
-pub doubling_all : (w t l : List ℕ) (at i to : ℕ) → length l ≤ i → Doubling w t l at i to → (to ≡ at + length (doubled l)) × (t ≡ splice w at (doubled l))
-doubling_all w t l at i to h d = let e = take_all i l h in (d.to_is ∙ ap (λ s. at + length (doubled s)) e, d.text_is ∙ ap (λ s. splice w at (doubled s)) e)
-
 -- a comma, a number, CR LF
 pub number_size : (v : ℕ) → length (comma ∷ (decimal v ++ (cr ∷ lf ∷ []))) ≡ digit_count v + 3
 unfolding decimal
@@ -168,6 +162,21 @@ module _ (names ids others : List ℕ) (v : ℕ) (e : ids ≡ v ∷ others) wher
 -- The identifiers from a place on: one, and those behind it.
 pub next_value : {T : Type 0} (f : T → ℕ) (l : List T) (i : ℕ) (x : T) → i < length l → x ≡ get_or l i x → map f (drop i l) ≡ f x ∷ map f (drop (i + 1) l)
 next_value f l i x h e = ap (map f) (drop-cons l i x h ∙ ap₂ (λ y n. y ∷ drop n l) (sym e) (sym (add-one i)))
+
+-- What a row leaves of the room, the others take.
+pub room_step : {T : Type 0} (f : T → ℕ) (l : List T) (i : ℕ) (x : T) (names name behind : List ℕ) (v room : ℕ) (left : Option ℕ) → i < length l → x ≡ get_or l i x
+    → name ≡ first_name names → behind ≡ behind_name names → v ≡ f x → left ≡ less_by (Some room) (length (row_text (record { name = name; identifier = v })))
+    → less_by (Some room) (length (write_sheet (rows_in names (map f (drop i l))))) ≡ less_by left (length (write_sheet (rows_in behind (map f (drop (i + 1) l)))))
+room_step f l i x names name behind v room left h e n b w r =
+    let others = map f (drop (i + 1) l) in
+    room_more names (map f (drop i l)) others (f x) (next_value f l i x h e) (Some room)
+    ∙ rw (← n, ← b, ← w, ← r) refl
+
+pub room_over : {T : Type 0} (f : T → ℕ) (l : List T) (i : ℕ) (x : T) (names name behind : List ℕ) (v room : ℕ) → i < length l → x ≡ get_or l i x
+    → name ≡ first_name names → behind ≡ behind_name names → v ≡ f x → None ≡ less_by (Some room) (length (row_text (record { name = name; identifier = v })))
+    → None ≡ less_by (Some room) (length (write_sheet (rows_in names (map f (drop i l)))))
+unfolding less_by
+room_over f l i x names name behind v room h e n b w r = sym (room_step f l i x names name behind v room None h e n b w r)
 
 -- no row is left
 pub rows_out : {T : Type 0} (f : T → ℕ) (names : List ℕ) (l : List T) (i : ℕ) → length l ≤ i → write_sheet (rows_in names (map f (drop i l))) ≡ []

@@ -26,6 +26,7 @@ pub(crate) fn row_room(room: usize, name: Name, v: u32) -> Option<usize>
         .checked_sub(digit_count(v) + 3)
 }
 
+// A text and a place in it stay two arguments: a struct that holds a `&mut` would have to say in each contract that it still holds the same text.
 fn put_quote(text: &mut [u8], at: usize, plain: bool) -> usize
     requires { at + length (quote_if plain) ≤ length text.old }
     ensures { (result ≡ at + length (quote_if plain)) × (text.new ≡ splice text.old at (quote_if plain)) }

@@ -1,10 +1,7 @@
 -- `put_digits`: the digits that are left to write, before those written, are all. Assumes nothing.
 use Rattle.std.proofs.Common.{arith}
-use Rattle.sheet_writing.specs.Writing.{digits_none, digits_more, digits_all}
+use Rattle.sheet_writing.specs.Writing.{digits_more, digits_all}
 use Rattle.sheet_writing.proofs.decimals.put_digits.Goals as goal
-
-pub loop-i-init : goal.loop-i-init
-loop-i-init c = digits_none c.args.text.now c.args.at c.args.count c.args.v
 
 pub loop-i-preserved : goal.loop-i-preserved
 loop-i-preserved c =

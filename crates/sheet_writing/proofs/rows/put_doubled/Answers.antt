@@ -1,6 +1,6 @@
 -- `put_doubled`: the bytes of the name so far are written, quotes twice. Assumes nothing.
 use Rattle.std.proofs.Common.{arith}
-use Rattle.sheet_writing.specs.Writing.{doubling_none, doubling_more, doubling_all, double_fits}
+use Rattle.sheet_writing.specs.Writing.{doubling_none, doubling_more, double_fits}
 use Rattle.sheet_writing.proofs.rows.put_doubled.Goals as goal
 
 pub loop-b-init : goal.loop-b-init
@@ -19,6 +19,3 @@ loop-b-preserved c =
     let a = c.args in
     let p = c.put_twice-to.ensures in
     rw (p.0, p.1) (doubling_more a.text.now l.text a.name.now a.at l.b-index l.to (omega arith) c.requires l.invariant)
-
-pub returns : goal.returns
-returns c = doubling_all c.args.text.now c.loop-b.text c.args.name.now c.args.at c.loop-b.b-index c.loop-b.to (omega arith) c.loop-b.invariant

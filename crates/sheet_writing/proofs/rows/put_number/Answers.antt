@@ -11,12 +11,6 @@ use Rattle.sheets.specs.Laying.{four_pieces}
 use Rattle.sheet_writing.specs.Writing.{number_size}
 use Rattle.sheet_writing.proofs.rows.put_number.Goals as goal
 
-pub put_byte-first-requires : goal.put_byte-first-requires
-put_byte-first-requires c = let a = c.args in
-    let k = c.requires in
-    let z = number_size a.v in
-    omega arith
-
 pub put_digits-requires : goal.put_digits-requires
 put_digits-requires c = let a = c.args in
     let k = c.requires in
