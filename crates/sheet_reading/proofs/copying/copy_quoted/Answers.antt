@@ -1,5 +1,5 @@
 -- `copy_quoted`: the bytes up to the first quote, and the rest. Assumes nothing.
-use mathlib.Core.Path.{refl, sym, ◌∙◌, subst}
+use mathlib.Core.Path.{refl, sym, subst}
 use native.Mathlib.Omega.{arith}
 use lib.ListN.{length}
 use Rattle.lists.specs.Basics.{when◌then◌else◌}
@@ -11,17 +11,11 @@ pub copy_until-q-requires : goal.copy_until-q-requires
 unfolding place_for test_for when◌then◌else◌
 copy_until-q-requires c = (quoted_copies, c.requires)
 
-pub overflow_sub-q : goal.overflow_sub-q
-overflow_sub-q c = let f = c.copy_until-q.ensures.from in omega arith
-
 pub overflow_add-at : goal.overflow_add-at
 overflow_add-at c = let g = quotes_there c.args.text.now c.args.from c.args.at (length c.args.names.now) c.requires c.args.names.now _ c.copy_until-q.result c.copy_until-q.ensures in omega arith
 
 pub copy_quotes-requires : goal.copy_quotes-requires
 copy_quotes-requires c = (c.copy_until-q.ensures.within, c.copy_until-q.ensures.ended, subst (Readable c.args.text.now Quoted _ _) (sym c.copy_until-q.auto.names) (quotes_readable c.args.text.now c.args.from c.args.at (length c.args.names.now) c.requires c.args.names.now _ c.copy_until-q.result c.copy_until-q.ensures))
-
-pub shape_of-names : goal.shape_of-names
-shape_of-names c = c.copy_quotes.auto.names ∙ c.copy_until-q.auto.names
 
 pub returns : goal.returns
 returns c = quotes_put c.args.text.now c.args.from c.args.at (length c.args.names.now) c.requires c.args.names.now _ c.copy_until-q.result c.copy_until-q.ensures refl _ c.copy_quotes.result c.copy_quotes.ensures

@@ -11,17 +11,11 @@ use Rattle.sheet_reading.proofs.copying.copy_quotes.Goals as goal
 pub loop-i-init : goal.loop-i-init
 loop-i-init c = (copying_none c.args.text.now c.args.from c.args.at (length c.args.names.now) c.requires.2 c.args.names.now refl c.requires.0 c.requires.1, refl)
 
-pub overflow_add-i : goal.overflow_add-i
-overflow_add-i c = let g = quote_goes c.args.text.now c.args.from c.args.at (length c.args.names.now) c.requires.2 c.args.names.now refl c.loop-i.i c.loop-i.k c.loop-i.names c.loop-i.invariant.0 in omega arith
-
 pub bounds-text-i : goal.bounds-text-i
 bounds-text-i c = quote_goes c.args.text.now c.args.from c.args.at (length c.args.names.now) c.requires.2 c.args.names.now refl c.loop-i.i c.loop-i.k c.loop-i.names c.loop-i.invariant.0
 
 pub bounds-names-k : goal.bounds-names-k
 bounds-names-k c = let g = quote_room c.args.text.now c.args.from c.args.at (length c.args.names.now) c.requires.2 c.args.names.now refl c.loop-i.i c.loop-i.k c.loop-i.names c.loop-i.invariant.0 c.loop-i-test.true in let k = c.loop-i.invariant.1 in omega arith
-
-pub overflow_add-next : goal.overflow_add-next
-overflow_add-next c = let g = quote_goes c.args.text.now c.args.from c.args.at (length c.args.names.now) c.requires.2 c.args.names.now refl c.loop-i.i c.loop-i.k c.loop-i.names c.loop-i.invariant.0 in omega arith
 
 pub overflow_add-k : goal.overflow_add-k
 overflow_add-k c = let g = quote_room c.args.text.now c.args.from c.args.at (length c.args.names.now) c.requires.2 c.args.names.now refl c.loop-i.i c.loop-i.k c.loop-i.names c.loop-i.invariant.0 c.loop-i-test.true in omega arith
@@ -33,17 +27,11 @@ copy_until-i-requires c = (quoted_copies, subst (Readable c.args.text.now Quoted
 pub overflow_add-k-in-loop-i : goal.overflow_add-k-in-loop-i
 overflow_add-k-in-loop-i c = let g = quote_room c.args.text.now c.args.from c.args.at (length c.args.names.now) c.requires.2 c.args.names.now refl c.loop-i.i c.loop-i.k c.loop-i.names c.loop-i.invariant.0 c.loop-i-test.true in omega arith
 
-pub overflow_sub-k : goal.overflow_sub-k
-overflow_sub-k c = let f = c.copy_until-i.ensures.from in omega arith
-
 pub overflow_add-k-in-loop-i-2 : goal.overflow_add-k-in-loop-i-2
 overflow_add-k-in-loop-i-2 c =
     let g = copying_small c.args.text.now c.args.from c.args.at (length c.args.names.now) c.requires.2 c.args.names.now refl _ _ _ (copying_more c.args.text.now c.args.from c.args.at (length c.args.names.now) c.requires.2 c.args.names.now refl c.loop-i.i c.loop-i.k c.loop-i.names c.loop-i.invariant.0 c.loop-i-test.true _ _ c.copy_until-i.ensures) in
     let k = c.well_formed.1.1.0.0 in
     omega arith
-
-pub loop-i-smaller : goal.loop-i-smaller
-loop-i-smaller c = let f = c.copy_until-i.ensures.from in let w = c.copy_until-i.ensures.within in omega arith
 
 pub loop-i-preserved : goal.loop-i-preserved
 loop-i-preserved c = (copying_more c.args.text.now c.args.from c.args.at (length c.args.names.now) c.requires.2 c.args.names.now refl c.loop-i.i c.loop-i.k c.loop-i.names c.loop-i.invariant.0 c.loop-i-test.true _ _ c.copy_until-i.ensures, c.copy_until-i.auto.names ∙ length-set c.loop-i.names c.loop-i.k 34 ∙ c.loop-i.invariant.1)
@@ -51,14 +39,8 @@ loop-i-preserved c = (copying_more c.args.text.now c.args.from c.args.at (length
 pub bounds-names-k-2 : goal.bounds-names-k-2
 bounds-names-k-2 c = let g = last_room c.args.text.now c.args.from c.args.at (length c.args.names.now) c.requires.2 c.args.names.now refl c.loop-i.i c.loop-i.k c.loop-i.names c.loop-i.invariant.0 c.loop-i-test.false in let k = c.loop-i.invariant.1 in omega arith
 
-pub overflow_add-result : goal.overflow_add-result
-overflow_add-result c = let g = quote_goes c.args.text.now c.args.from c.args.at (length c.args.names.now) c.requires.2 c.args.names.now refl c.loop-i.i c.loop-i.k c.loop-i.names c.loop-i.invariant.0 in omega arith
-
 pub overflow_add-result-2 : goal.overflow_add-result-2
 overflow_add-result-2 c = let g = last_room c.args.text.now c.args.from c.args.at (length c.args.names.now) c.requires.2 c.args.names.now refl c.loop-i.i c.loop-i.k c.loop-i.names c.loop-i.invariant.0 c.loop-i-test.false in omega arith
-
-pub shape_of-names : goal.shape_of-names
-shape_of-names c = length-set c.loop-i.names c.loop-i.k 0 ∙ c.loop-i.invariant.1
 
 pub returns : goal.returns
 returns c = quoted_put c.args.text.now c.args.from c.args.at (length c.args.names.now) c.requires.2 c.args.names.now refl c.loop-i.i c.loop-i.k c.loop-i.names c.loop-i.invariant.0 c.loop-i-test.false

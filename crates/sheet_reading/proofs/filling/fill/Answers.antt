@@ -1,29 +1,17 @@
 -- `fill`: the rows up to i are written. Assumes nothing.
-use mathlib.Core.Path.{refl, sym, ap, ◌∙◌, subst}
+use mathlib.Core.Path.{refl, ap, ◌∙◌}
 use mathlib.Core.List.{[], ◌∷◌}
 use Prim.Native.Nat.{◌*◌}
 use native.Mathlib.Omega.{arith}
 use lib.ListN.{length}
 use Rattle.lists.specs.Splice.{splice}
-use Rattle.sheets.specs.declared.Place.TheVariants.{Start}
 use Rattle.sheets.specs.Laying.{length_splice}
 use Rattle.sheet_reading.specs.Carried.{form_room}
-use Rattle.sheet_reading.specs.Put.{Readable}
-use Rattle.sheet_reading.specs.Filled.{filled_none, fill_readable, row_room, filled_row, filled_all}
+use Rattle.sheet_reading.specs.Filled.{filled_none, row_room, filled_row, filled_all}
 use Rattle.sheet_reading.proofs.filling.fill.Goals as goal
 
 pub loop-i-init : goal.loop-i-init
 loop-i-init g c = let d = g.T.Identifier in (filled_none d.form d.each d.laws c.args.text.now (d.held c.args.identifiers.now) c.args.names.now, refl, refl, omega arith)
-
-pub copy_row-r-requires : goal.copy_row-r-requires
-copy_row-r-requires g c =
-    let d = g.T.Identifier in
-    let a = c.args in
-    let l = c.loop-i in (
-      c.loop-i-test.true,
-      subst (Readable a.text.now Start l.i l.at) (sym l.invariant.2)
-          (fill_readable d.form d.each d.laws a.text.now (d.held a.identifiers.now) a.names.now c.requires (d.held l.identifiers) l.names l.row l.at l.i l.invariant.0),
-    )
 
 pub put-requires : goal.put-requires
 put-requires g c =
@@ -33,12 +21,6 @@ put-requires g c =
     let r = row_room d.form d.each d.laws a.text.now (d.held a.identifiers.now) a.names.now c.requires (d.held l.identifiers) l.names l.row l.at l.i l.invariant.0 _ c.copy_row-r.result c.copy_row-r.ensures in
     let k = l.invariant.1 in
     omega arith
-
-pub overflow_add-row : goal.overflow_add-row
-overflow_add-row g c = let h = c.loop-i.invariant.3 in omega arith
-
-pub loop-i-smaller : goal.loop-i-smaller
-loop-i-smaller g c = let a = c.copy_row-r.ensures.ahead in let w = c.copy_row-r.ensures.within in omega arith
 
 pub loop-i-preserved : goal.loop-i-preserved
 loop-i-preserved g c =

@@ -1,21 +1,14 @@
 -- `digits`: all bytes passed are digits, and make the number. Assumes nothing.
-use mathlib.Core.Path.{◌≡◌, sym, ◌∙◌, subst}
+use mathlib.Core.Path.{◌≡◌, sym, ◌∙◌}
 use Prim.Native.Nat.{◌+◌, ◌*◌}
 use native.Mathlib.Omega.{arith}
-use lib.ListN.{length}
 use Rattle.sheets.specs.Grammar.{is_digit, worth}
 use Rattle.sheet_reading.specs.Runs.{between, every_empty, every_between, worth_none, worth_more}
-use Rattle.sheet_reading.specs.Judged.{DigitsSaid, digits_small, digits_large}
+use Rattle.sheet_reading.specs.Judged.{digits_large}
 use Rattle.sheet_reading.proofs.numbers.digits.Goals as goal
 
 pub loop-i-init : goal.loop-i-init
 loop-i-init c = (every_empty is_digit c.args.from c.args.text.now, worth_none c.args.from c.args.text.now, omega arith)
-
-pub returns-then-not-is_digit : goal.returns-then-not-is_digit
-returns-then-not-is_digit c =
-    let l = c.loop-i in
-    let s = l.invariant.2 in
-    digits_small c.args.text.now c.args.from l.i l.value (record { from = l.auto.i; within = omega arith; passed = l.invariant.0; stopped = λ _. sym c.is_digit.ensures ∙ c.if-not-is_digit.true }) l.invariant.1 (omega arith)
 
 pub returns-then-value-gt999999999 : goal.returns-then-value-gt999999999
 returns-then-value-gt999999999 c =
@@ -41,12 +34,3 @@ loop-i-preserved c =
     let e = l.invariant.1 in
     let d = c.digit_value.ensures.0 in
     (every_between is_digit a.from l.i t f (omega arith) l.invariant.0 (sym c.is_digit.ensures ∙ c.if-not-is_digit.false), omega arith, omega arith)
-
-pub returns : goal.returns
-returns c =
-    let l = c.loop-i in
-    let t = c.args.text.now in
-    let h = l.auto.i-end c.requires in
-    let s = l.invariant.2 in
-    let e : l.i ≡ length t = omega arith in
-    subst (λ k. DigitsSaid t c.args.from k l.value) e (digits_small t c.args.from l.i l.value (record { from = l.auto.i; within = omega arith; passed = l.invariant.0; stopped = λ z. absurd (omega arith) }) l.invariant.1 (omega arith))
