@@ -15,8 +15,8 @@ const SLOTS: usize = 8208;
 const MOST_PASSES: u32 = 6;
 
 // The first card that came to a slot, or card i where none did; each as one more than its place, and 0 for none, since options would take twice the
-// room, which each pass clears. Nothing is written to a slot that is taken: where
-// all cards come to the same one, each would have to wait for the word that the card before it wrote.
+// room, which each pass clears. Nothing is written to a slot that is taken: where all cards come to the same one, each would have to wait for the
+// word that the card before it wrote.
 fn first_come(slots: &mut [u16; SLOTS], slot: usize, i: usize) -> u16
     requires { (slot < slot_count) × (i < most_cards) }
     ensures { (result ≡ (when nat_eq (get_or slots.old slot 0) 0 then i + 1 else get_or slots.old slot 0)) × (slots.new ≡ set slots.old slot result) }

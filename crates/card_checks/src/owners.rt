@@ -11,7 +11,7 @@ use clockwise::distance;
 use lists::pick;
 use protocol::form::{ROW_WORDS, ROWS_AT};
 
-const TOP: u32 = 4294967295;
+const TOP: u32 = u32::MAX;
 
 // How far b's numbers reach back if a comes before it: all the way round where a is b.
 pub(crate) fn gap(a: u32, b: u32) -> u32
