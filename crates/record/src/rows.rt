@@ -37,7 +37,8 @@ pub fn outside_row(identifier: u32) -> Row
     }
 }
 
-// The row of a node; a number that is no node's, such as 'none', counts as outside.
+// The row of a node; a number that is no node's, such as 'none', counts as outside. (What is asked of w stands in each contract: w is lent by the
+// caller, of any length, and a struct around it would be made anew at each call.)
 pub fn row_of(w: &[u32], node: u32) -> Row
     requires { (record_size ≤ length w.now) × (count_in w.now ≤ most_nodes) }
     ensures { result ≡ row (read w.now) node }

@@ -22,8 +22,7 @@ loop-i-preserved c =
     let q = put_at_length a.out.now c.put.new.out 0 2 (omega arith) c.put.auto.out in
     let eight : at + 8 - at ≡ 8 = omega arith in
     let k = l.invariant.2 in
-    let put = c.put-in-loop-i in
-    (
+    let put = c.put-in-loop-i in (
       search rules,
       rw eight (put_at l.out put.new.out at 8 v (omega arith) (rw eight at put.ensures)) ∙ eights_put _ l.out a.identifiers.now l.i (omega arith) (omega arith) l.invariant.1,
       put_at_length l.out put.new.out at (at + 8 - at) (omega arith) put.auto.out ∙ k,
