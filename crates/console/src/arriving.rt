@@ -5,7 +5,8 @@ use crate::Console;
 use crate::retries::may_retry;
 use std::io::Read;
 
-// What a read brought: so many bytes, at least one; the end of the input; or nothing more, since it failed.
+// What a read brought: so many bytes, at least one; the end of the input; or nothing more, since it failed. (Three ways, so neither an Option nor
+// a Result would say it.)
 #[derive(Clone, Copy)]
 pub enum Arrival {
     Bytes(usize),

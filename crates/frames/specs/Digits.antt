@@ -1,12 +1,12 @@
 -- What digits are worth at most, the number that digits make one by one, and a test of all bytes. Assumes nothing.
-use Rattle.std.specs.Prelude.{◌≡◌, Bool, List, [], ◌∷◌, ℕ, suc, ◌+◌, ◌-◌, ◌*◌, ◌^◌, ◌<◌, ◌≤◌, ◌&&◌, nat_lt}
-use Rattle.std.proofs.Math.Path.{refl, ap}
+use Rattle.std.specs.Prelude.{◌≡◌, Bool, List, [], ◌∷◌, ◌++◌, ℕ, suc, ◌+◌, ◌-◌, ◌*◌, ◌^◌, ◌<◌, ◌≤◌, ◌&&◌, nat_lt, length}
+use Rattle.std.proofs.Math.Path.{refl, ap, sym, ◌∙◌}
 use Rattle.std.proofs.Common.{add-one, arith, ltb→lt}
 use Rattle.std.proofs.Math.Nat.{pow-suc, pow-le-pow_right}
 use Rattle.std.specs.List.{list_all}
 use Rattle.lists.specs.Choice.{choose}
 use Rattle.lists.specs.Basics.{every}
-use Rattle.protocol.specs.Frames.{digit_value}
+use Rattle.protocol.specs.Frames.{digit_value, number_after, number}
 
 pub digit_bound : (b : ℕ) → digit_value b < 16
 unfolding digit_value
@@ -30,3 +30,22 @@ pub every_is : (f : ℕ → Bool) (l : List ℕ) → every f l ≡ list_all f l
 unfolding every
 every_is f [] = refl
 every_is f (x ∷ l) = ap (λ b. f x && b) (every_is f l)
+
+-- digits behind digits: so four digits are 256 times the first two and the last two, and eight 65536 times the first four and the last four
+behind : (v : ℕ) (digits : List ℕ) → number_after v digits ≡ v * 16 ^ length digits + number digits
+behind v [] = omega arith
+behind v (d ∷ digits) =
+    let p = 16 ^ length digits in
+    let x = digit_value d in
+    let e : 16 ^ suc (length digits) ≡ p * 16 = pow-suc 16 (length digits) in
+    let f = behind (v * 16 + x) digits in
+    let g = behind (0 * 16 + x) digits in
+    let h : v * (p * 16) + ((0 * 16 + x) * p + number digits) ≡ (v * 16 + x) * p + number digits = omega arith in
+    f ∙ sym h ∙ sym (ap (λ z. v * z + number_after (0 * 16 + x) digits) e ∙ ap (λ z. v * (p * 16) + z) g)
+
+pub number_append : (a b : List ℕ) → number (a ++ b) ≡ number a * 16 ^ length b + number b
+number_append a b = go 0 a
+  where
+    go : (v : ℕ) (a : List ℕ) → number_after v (a ++ b) ≡ number_after v a * 16 ^ length b + number b
+    go v [] = behind v b
+    go v (d ∷ a) = go (v * 16 + digit_value d) a

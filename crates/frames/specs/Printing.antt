@@ -23,6 +23,17 @@ pub length_print : (k v : ℕ) → length (print k v) ≡ k
 length_print zero v = refl
 length_print (suc k) v = let e = length-append (print k (v / 16)) (digit_of v ∷ []) in let f = length_print k (v / 16) in omega arith
 
+-- four digits are twice two, and eight twice four
+pub print_four : (v : ℕ) → print 4 v ≡ print 2 (v / 256) ++ print 2 v
+print_four v =
+    let e : v / 16 / 16 ≡ v / 256 = omega arith in
+    ap (λ z. digit_of (z / 16) ∷ digit_of z ∷ digit_of (v / 16) ∷ digit_of v ∷ []) e
+
+pub print_eight : (v : ℕ) → print 8 v ≡ print 4 (v / 65536) ++ print 4 v
+print_eight v =
+    let e : v / 16 / 16 / 16 / 16 ≡ v / 65536 = omega arith in
+    ap (λ z. print 4 z ++ print 4 v) e
+
 -- an element put in front of those that are there
 one_front : (s : List ℕ) (j d : ℕ) → j < length s → drop j (set s j d) ≡ d ∷ drop (suc j) s
 one_front [] j d h = absurd (omega arith)

@@ -1,14 +1,14 @@
 -- Parts of a list changed in place: what an edit through a lent part does to the whole. Assumes nothing.
-use Rattle.std.specs.Prelude.{◌≡◌, refl, ℕ, suc, ◌+◌, ◌-◌, ◌≤◌, ◌<◌, take, set, replicate}
+use Rattle.std.specs.Prelude.{◌≡◌, refl, ℕ, ◌+◌, ◌-◌, ◌≤◌, take, replicate}
 use Rattle.std.proofs.Math.Path.{ap}
-use Rattle.std.proofs.Common.{sym, ◌∙◌, arith, length-append, length-take, drop_of_length-le, take_all, drop-drop, drop_at, add-one}
+use Rattle.std.proofs.Common.{sym, ◌∙◌, arith, length-append, length-take, drop_of_length-le, take_all, drop-drop, drop_at}
 use mathlib.Core.List.{List, [], ◌++◌, append_assoc, append-nil}
 use Rattle.std.proofs.Math.Nat.{zero-add, add_comm}
-use Rattle.std.proofs.Math.ListN.{length, drop, get_or, length-drop}
+use Rattle.std.proofs.Math.ListN.{length, drop, length-drop}
 use Rattle.std.proofs.lemmas.List.{replicate-append-replicate, length-replicate}
 use Rattle.std.proofs.lemmas.List.Edits.{sets}
 use borrow.Rule.Slice.PartMut.{put_mid}
-use Rattle.std.proofs.Math.Seq.{sets-eq, get_or-append-add, get_or-drop, drop-cons, set_at, take-suc, append_snoc, take-append_seam, drop-append_seam, drop-append-add}
+use Rattle.std.proofs.Math.Seq.{sets-eq, take-append_seam, drop-append_seam, drop-append-add}
 
 -- w with vs in the place of the elements from at on
 unfoldable pub splice : List ℕ → ℕ → List ℕ → List ℕ

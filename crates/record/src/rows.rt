@@ -1,5 +1,6 @@
 ghost use Rattle.std.specs.Prelude.{◌≡◌, ◌+◌, ◌*◌, ◌≤◌, ◌<◌, length};
-ghost use Rattle.protocol.specs.Record.{most_nodes, row_size, row_start, record_size, count_in, row_from, read, row, identifier, outside};
+ghost use Rattle.std.proofs.lemmas.List.Edits.{sets};
+ghost use Rattle.protocol.specs.Record.{most_nodes, row_size, row_start, record_size, count_in, row_words, row_from, read, row, identifier, outside};
 ghost use Rattle.layout.specs.Edits.{row_put};
 
 use protocol::form::{NONE, ROW_WORDS, ROWS_AT};
@@ -36,7 +37,8 @@ pub fn outside_row(identifier: u32) -> Row
     }
 }
 
-// The row of a node; a number that is no node's, such as 'none', counts as outside.
+// The row of a node; a number that is no node's, such as 'none', counts as outside. (What is asked of w stands in each contract: w is lent by the
+// caller, of any length, and a struct around it would be made anew at each call.)
 pub fn row_of(w: &[u32], node: u32) -> Row
     requires { (record_size ≤ length w.now) × (count_in w.now ≤ most_nodes) }
     ensures { result ≡ row (read w.now) node }
@@ -58,11 +60,19 @@ pub fn identifier_of(w: &[u32], node: u32) -> u32
     0
 }
 
-// Changes the words of one node.
+// The row's editor: it writes a row at the start of the part of the record that it is lent.
+fn edit_row(part: &mut [u32], h: Row)
+    requires { row_size ≤ length part.old }
+    ensures { part.new ≡ sets part.old 0 (row_words h) }
+{
+    part[..ROW_WORDS].copy_from_slice(&<[u32; ROW_WORDS]>::from(h));
+}
+
+// Changes the words of one node, through the part of the record that starts with its row.
 pub fn put_row(w: &mut [u32], node: u32, h: Row)
     requires { row_start node + row_size ≤ length w.old }
     ensures { w.new ≡ row_put w.old node h }
 {
     let at = ROWS_AT + ROW_WORDS * (node as usize);
-    w[at..at + ROW_WORDS].copy_from_slice(&<[u32; ROW_WORDS]>::from(h));
+    edit_row(&mut w[at..], h);
 }

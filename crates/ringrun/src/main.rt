@@ -64,7 +64,8 @@ impl Run {
         }
     }
 
-    // A proved loop has to end, and nothing says that the input does: no run uses up its turns.
+    // A proved loop has to end, and nothing says that the input does: no run uses up its turns. (One loop for this program, `inspect` and `hubsheet`
+    // would take a trait with an invariant and two methods for what each of them does with a read, and be longer than the three.)
     fn run(&mut self, console: Console)
         requires { (self.old.record ≡ replicate record_size 0) × (self.old.line ≡ []) }
     {

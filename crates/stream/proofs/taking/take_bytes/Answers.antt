@@ -32,8 +32,7 @@ loop-rest-preserved c =
 pub returns : goal.returns
 returns c =
     let l = c.loop-rest in
-    let line = c.in_default.ensures in
-    (
+    let line = c.in_default.ensures in (
       l.invariant.same ∙ line_goes_on l.w l.line (take l.waiting l.out) l.left.now c.gather.new.self [] false line.bytes refl ∙ all_taken l.w c.gather.new.self (take l.waiting l.out) line.few,
       omega arith,
       l.invariant.kept,
