@@ -1,5 +1,6 @@
 ghost use Rattle.std.specs.Prelude.{◌≡◌, ◌+◌, ◌*◌, ◌≤◌, ◌<◌, length};
-ghost use Rattle.protocol.specs.Record.{most_nodes, row_size, row_start, record_size, count_in, row_from, read, row, identifier, outside};
+ghost use Rattle.std.proofs.lemmas.List.Edits.{sets};
+ghost use Rattle.protocol.specs.Record.{most_nodes, row_size, row_start, record_size, count_in, row_words, row_from, read, row, identifier, outside};
 ghost use Rattle.layout.specs.Edits.{row_put};
 
 use protocol::form::{NONE, ROW_WORDS, ROWS_AT};
@@ -58,11 +59,19 @@ pub fn identifier_of(w: &[u32], node: u32) -> u32
     0
 }
 
-// Changes the words of one node.
+// The row's editor: it writes a row at the start of the part of the record that it is lent.
+fn edit_row(part: &mut [u32], h: Row)
+    requires { row_size ≤ length part.old }
+    ensures { part.new ≡ sets part.old 0 (row_words h) }
+{
+    part[..ROW_WORDS].copy_from_slice(&<[u32; ROW_WORDS]>::from(h));
+}
+
+// Changes the words of one node, through the part of the record that starts with its row.
 pub fn put_row(w: &mut [u32], node: u32, h: Row)
     requires { row_start node + row_size ≤ length w.old }
     ensures { w.new ≡ row_put w.old node h }
 {
     let at = ROWS_AT + ROW_WORDS * (node as usize);
-    w[at..at + ROW_WORDS].copy_from_slice(&<[u32; ROW_WORDS]>::from(h));
+    edit_row(&mut w[at..], h);
 }

@@ -4,12 +4,12 @@ use mathlib.Core.Bool.{◌&&◌}
 use Prim.Native.Nat.{◌+◌, min}
 use native.Mathlib.Omega.{arith}
 use Rattle.std.specs.Prelude.{nat_le}
-use Rattle.protocol.specs.Frames.{refusal_text, print2}
+use Rattle.protocol.specs.Frames.{refusal_text}
 use Rattle.hubsheet.specs.Line.{refusal_line, rows_line, printed_as, line_within, line_rows, line_number}
 use Rattle.hubsheet.proofs.frame.put_line.Goals as goal
 
 pub returns-in-Within : goal.returns-in-Within
-unfolding refusal_line refusal_text print2
+unfolding refusal_line refusal_text
 returns-in-Within c = let r = c.put_refusal.ensures.0 in (omega arith, printed_as c.args.h c.args.identifiers.now c.args.out.now _ _ _ c.put_refusal.ensures.0 c.put_refusal.ensures.1 (λ m k. line_within c.args.h c.args.identifiers.now c.ending.result c.ending.ensures m k c.in-Within.is))
 
 pub returns-in-BehindRows : goal.returns-in-BehindRows

@@ -5,17 +5,17 @@ use borrow.Author.Tests.{le-leb, lt-leb}
 use lib.ListN.{take}
 use lib.Seq.{length-take-le}
 use Rattle.lists.specs.Basics.{when◌then◌else◌, require}
-use Rattle.protocol.specs.Frames.{refusal_text, print2}
+use Rattle.protocol.specs.Frames.{refusal_text}
 use Rattle.hubsheet.specs.Line.{refusal_line, rows_line, founding_small}
 use borrow.Author.Rules.{rules}
 use Rattle.hubsheet.proofs.frame.put_rows.Goals as goal
 
 pub returns-then-not-fits : goal.returns-then-not-fits
-unfolding rows_line refusal_line refusal_text print2 require when◌then◌else◌
+unfolding rows_line refusal_line refusal_text require when◌then◌else◌
 returns-then-not-fits c = search rules
 
 pub returns-then-rows-gt64 : goal.returns-then-rows-gt64
-unfolding rows_line refusal_line refusal_text print2 require when◌then◌else◌
+unfolding rows_line refusal_line refusal_text require when◌then◌else◌
 returns-then-rows-gt64 c = search (rules, lt-leb)
 
 pub slice_bounds-put_founding-end : goal.slice_bounds-put_founding-end
