@@ -4,12 +4,11 @@ use Rattle.std.specs.Option.{unwrap_or}
 use Rattle.std.proofs.Math.Path.{ap, sym}
 use Rattle.std.proofs.Common.{◌∙◌, append_assoc, append-nil, add-one, arith, leb-true, leb-false, length-append, take-suc, take_all, length-take-le}
 use Rattle.std.proofs.lemmas.Bool.{lt-leb}
-use Rattle.std.proofs.lemmas.List.Edits.{sets, sets-eq}
 use Rattle.std.proofs.Math.Seq.{take-length}
 use Rattle.lists.specs.Basics.{when◌then◌else◌, require, every}
 use Rattle.lists.specs.Choice.{on_yes, on_no}
 use Rattle.lists.specs.Splice.{splice}
-use Rattle.protocol.specs.Frames.{print2, print4, print8, refusal_text}
+use Rattle.protocol.specs.Frames.{print2, print8, refusal_text}
 use Rattle.protocol.specs.declared.refusal.Refusal.{Refusal}
 use Rattle.protocol.specs.declared.refusal.Refusal.TheVariants.{NoSheet, IdentifierTooLarge, RoomShort}
 use Rattle.protocol.specs.Refusals.{number_of}
@@ -38,11 +37,9 @@ hub_line nothing = refusal_line NoSheet
 hub_line (lists n i) = require (every is_word i) (refusal_line IdentifierTooLarge) (require (nat_le (length i) 64) (refusal_line RoomShort) (founding_line i))
 
 pub length_print2 : (v : ℕ) → length (print2 v) ≡ 2
-unfolding print2
 length_print2 v = refl
 
 pub length_print8 : (v : ℕ) → length (print8 v) ≡ 8
-unfolding print8 print4 print2
 length_print8 v = refl
 
 eights_last : (s : List ℕ) (v : ℕ) → eights (s ++ (v ∷ [])) ≡ eights s ++ print8 v
@@ -57,11 +54,6 @@ pub length_eights : (l : List ℕ) → length (eights l) ≡ 8 * length l
 unfolding eights
 length_eights [] = refl
 length_eights (v ∷ l) = let e = length-append (print8 v) (eights l) in let f = length_print8 v in let g = length_eights l in omega arith
-
--- digits that are put into a line, as a piece of it
-pub put_piece : (w vs : List ℕ) (at : ℕ) → at + length vs ≤ length w → sets w at vs ≡ splice w at vs
-unfolding splice
-put_piece w vs at h = sets-eq vs w at h
 
 -- eight digits more
 pub eights_put : (w u l : List ℕ) (i : ℕ) → i < length l → 2 + 8 * length l ≤ length w → u ≡ splice w 2 (eights (take i l)) → splice u (2 + 8 * i) (print8 (get_or l i 0)) ≡ splice w 2 (eights (take (i + 1) l))
@@ -83,7 +75,7 @@ founding_length l =
     omega arith
 
 pub founding_put : (w t u v l : List ℕ) (i : ℕ) → i ≡ length l → 2 + 8 * length l + 1 ≤ length w → t ≡ splice w 0 (print2 240) → u ≡ splice t 2 (eights (take i l)) → v ≡ splice u (2 + 8 * i) (10 ∷ []) → v ≡ laid w (founding_line l)
-unfolding founding_line print2
+unfolding founding_line
 founding_put w t u v l i e h p q r =
     let x : u ≡ splice t 2 (eights l) = q ∙ ap (λ n. splice t 2 (eights (take n l))) e ∙ ap (λ s. splice t 2 (eights s)) (take-length l) in
     let a = length_eights l in
