@@ -8,8 +8,11 @@ use crate::line::Line;
 use crate::printing::{outcome_line, refusal_line};
 use crate::reading::decode;
 use founding::fresh;
-use protocol::{Answer, Frame, Refusal, refusals};
+use protocol::{Answer, Frame, Refusal};
 use steps::step;
+
+// What is printed as the number of a line that is no frame: EEFF. No call refuses by it.
+const UNREADABLE: u32 = 255;
 
 // The identifiers that follow F0, as many as there is room for.
 fn read_identifiers(line: &[u8], ids: &mut [u32])
@@ -39,7 +42,7 @@ pub fn answer_line(w: &mut [u32], line: &[u8]) -> Line
     ensures { line_call w.old line.now ≡ record { printed = result; slice = w.new } }
 {
     let Some(frame) = decode(line) else {
-        return refusal_line(refusals::UNREADABLE);
+        return refusal_line(UNREADABLE);
     };
     match frame {
         Frame::Founding(count) => outcome_line(fresh_ring(w, line, count)),

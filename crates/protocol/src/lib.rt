@@ -5,7 +5,6 @@ pub mod answer_kinds;
 pub mod form;
 pub mod kinds;
 pub mod refusal;
-pub mod refusals;
 pub mod states;
 mod words;
 
