@@ -6,7 +6,6 @@ ghost use Rattle.protocol.specs.Calls.{written};
 ghost use Rattle.layout.specs.Form.{Valid};
 
 use crate::apply::settle;
-use lists::both;
 use protocol::form::{MESSAGE_WORDS, MESSAGES_AT, MOST_MESSAGES};
 use protocol::{Answer, Decision, Refusal, kinds, states};
 use routing::{in_ring, note};
@@ -18,7 +17,8 @@ pub(crate) fn join(w: &mut [u32], x: u32, y: u32) -> Result<Answer, Refusal>
 {
     let n = w[1];
     let m = w[2];
-    if !both(x < n, y < n) {
+    let nodes = (x < n) & (y < n);
+    if !nodes {
         return Err(Refusal::NoHub);
     }
     let mut h = record::row_of(w, x);
@@ -80,7 +80,8 @@ pub(crate) fn deliver(w: &mut [u32], x: u32, y: u32) -> Result<Answer, Refusal>
 {
     let n = w[1];
     let m = w[2];
-    if !both(x < n, y < n) {
+    let nodes = (x < n) & (y < n);
+    if !nodes {
         return Err(Refusal::NoHub);
     }
     if let Some(j) = record::find(w, x, y) {

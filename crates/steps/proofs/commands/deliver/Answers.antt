@@ -12,11 +12,11 @@ use Rattle.std.specs.Prelude.{Err}
 use Rattle.std.proofs.lemmas.Result.{err_from_is_err_and}
 use Rattle.steps.proofs.commands.deliver.Goals as goal
 
-pub returns-then-not-both : goal.returns-then-not-both
+pub returns-then-not-nodes : goal.returns-then-not-nodes
 unfolding written
-returns-then-not-both c =
+returns-then-not-nodes c =
     let a = c.args in
-    ap (written a.w.now) (deliver_4 a.w.now a.x a.y (sym c.both.ensures ∙ c.if-not-both.true))
+    ap (written a.w.now) (deliver_4 a.w.now a.x a.y (c.if-not-nodes.true))
 
 pub remove-requires : goal.remove-requires
 remove-requires c = (c.in-Some.ensures.1, c.requires.waiting, c.requires.long)
@@ -25,7 +25,7 @@ pub settle-requires : goal.settle-requires
 settle-requires c =
     let a = c.args in
     let v = c.requires in
-    let l = second_node a.w.now a.x a.y (sym c.both.ensures ∙ c.if-not-both.false) in
+    let l = second_node a.w.now a.x a.y (c.if-not-nodes.false) in
     (omega (arith, c.in-Some.ensures.1, v.waiting), omega (arith, v.nodes), omega (arith, v.long, c.remove.auto.w))
 
 pub returns-in-Some : goal.returns-in-Some
@@ -35,7 +35,7 @@ returns-in-Some c =
     let w = a.w.now in
     let j = c.in-Some.j in
     let s = read w in
-    let nodes = sym c.both.ensures ∙ c.if-not-both.false in
+    let nodes = c.if-not-nodes.false in
     let lj = c.in-Some.ensures.1 in
     let u = c.message_at-u in
     let h = c.row_of-h in
@@ -61,7 +61,7 @@ returns-in_err-d c =
     let w = a.w.now in
     let j = c.in-Some.j in
     let s = read w in
-    let nodes = sym c.both.ensures ∙ c.if-not-both.false in
+    let nodes = c.if-not-nodes.false in
     let lj = c.in-Some.ensures.1 in
     let u = c.message_at-u in
     let h = c.row_of-h in
@@ -81,5 +81,5 @@ pub returns : goal.returns
 unfolding written
 returns c =
     let a = c.args in
-    let nodes = sym c.both.ensures ∙ c.if-not-both.false in
+    let nodes = c.if-not-nodes.false in
     ap (written a.w.now) (deliver_9 a.w.now a.x a.y nodes (omega (arith, c.in_default.ensures)))

@@ -13,32 +13,32 @@ use Rattle.protocol.specs.Calls.{written}
 use mathlib.Core.Path.{◌≡◌, ◌∙◌, ap, sym}
 use Rattle.steps.proofs.commands.join.Goals as goal
 
-pub returns-then-not-both : goal.returns-then-not-both
+pub returns-then-not-nodes : goal.returns-then-not-nodes
 unfolding written
-returns-then-not-both c =
+returns-then-not-nodes c =
     let a = c.args in
-    ap (written a.w.now) (join_4 a.w.now a.x a.y (sym c.both.ensures ∙ c.if-not-both.true))
+    ap (written a.w.now) (join_4 a.w.now a.x a.y (c.if-not-nodes.true))
 
 pub returns-then-h-ne-OUTSIDE : goal.returns-then-h-ne-OUTSIDE
 unfolding written
 returns-then-h-ne-OUTSIDE c =
     let a = c.args in
     ap (written a.w.now)
-    (join_6 a.w.now a.x a.y (sym c.both.ensures ∙ c.if-not-both.false) (λ e. c.if-h-ne-OUTSIDE.true (ap (λ h. h.state) c.row_of-h.ensures ∙ e)))
+    (join_6 a.w.now a.x a.y (c.if-not-nodes.false) (λ e. c.if-h-ne-OUTSIDE.true (ap (λ h. h.state) c.row_of-h.ensures ∙ e)))
 
 pub returns-then-not-in_ring : goal.returns-then-not-in_ring
 unfolding written
 returns-then-not-in_ring c =
     let a = c.args in
     ap (written a.w.now)
-    (join_5 a.w.now a.x a.y (sym c.both.ensures ∙ c.if-not-both.false) (sym (ap (λ h. h.state) c.row_of-h.ensures) ∙ c.if-h-ne-OUTSIDE.false)
+    (join_5 a.w.now a.x a.y (c.if-not-nodes.false) (sym (ap (λ h. h.state) c.row_of-h.ensures) ∙ c.if-h-ne-OUTSIDE.false)
     (ap in_ring (sym c.row_of.ensures) ∙ sym c.in_ring.ensures ∙ c.if-not-in_ring.true))
 
 pub settle-requires : goal.settle-requires
 settle-requires c =
     let a = c.args in
     let v = c.requires in
-    let l = first_node a.w.now a.x a.y (sym c.both.ensures ∙ c.if-not-both.false) in
+    let l = first_node a.w.now a.x a.y (c.if-not-nodes.false) in
     (c.if-m-lt-MOST_MESSAGES.true, omega (arith, v.nodes), v.long)
 
 pub returns-then-m-lt-MOST_MESSAGES : goal.returns-then-m-lt-MOST_MESSAGES
@@ -46,7 +46,7 @@ returns-then-m-lt-MOST_MESSAGES c =
     let a = c.args in
     let w = a.w.now in
     let h = c.row_of-h in
-    let nodes = sym c.both.ensures ∙ c.if-not-both.false in
+    let nodes = c.if-not-nodes.false in
     let room = c.if-m-lt-MOST_MESSAGES.true in
     let sends : Send (with_lock (with_state h.result 1) 1) c.note.result Quiet
     ≡ Send (with_lock (with_state (row (read w) a.x) 1) 1) (note JOIN a.x a.y a.x) Quiet =
@@ -62,5 +62,5 @@ unfolding written
 returns c =
     let a = c.args in
     ap (written a.w.now)
-    (join_11 a.w.now a.x a.y (sym c.both.ensures ∙ c.if-not-both.false) (sym (ap (λ h. h.state) c.row_of-h.ensures) ∙ c.if-h-ne-OUTSIDE.false)
+    (join_11 a.w.now a.x a.y (c.if-not-nodes.false) (sym (ap (λ h. h.state) c.row_of-h.ensures) ∙ c.if-h-ne-OUTSIDE.false)
     (ap in_ring (sym c.row_of.ensures) ∙ sym c.in_ring.ensures ∙ c.if-not-in_ring.false) c.if-m-lt-MOST_MESSAGES.false)
