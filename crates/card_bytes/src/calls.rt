@@ -6,8 +6,8 @@ ghost use Rattle.protocol.specs.Answers.{refusal};
 ghost use Rattle.protocol.specs.CardBytes.{step_cards_bytes, offer_bytes, fresh_by_cards_bytes};
 
 use crate::results::{finish_fresh, finish_offer, finish_step};
-use protocol::form::{BOOK_BYTES, BOOK_WORDS, RECORD_BYTES, RECORD_WORDS};
 use protocol::Refusal;
+use protocol::form::{BOOK_BYTES, BOOK_WORDS, RECORD_BYTES, RECORD_WORDS};
 use word_bytes::{load, loaded};
 
 // One command on the record in the lent bytes, with the cards in others. Only the first words of both are loaded: a step looks at nothing behind them.
@@ -37,7 +37,13 @@ pub fn step(
 }
 
 // A card offered to the ring in the lent bytes, which are only read.
-pub fn offer(words: &[u8], book: &mut [u8], machine: u32, revision: u32, price: u32) -> Result<(), Refusal>
+pub fn offer(
+    words: &[u8],
+    book: &mut [u8],
+    machine: u32,
+    revision: u32,
+    price: u32,
+) -> Result<(), Refusal>
     ensures { offer_bytes words.now book.old machine revision price ≡ record { code = refusal result; book = book.new } }
 {
     if words.len() < RECORD_BYTES {
@@ -53,7 +59,12 @@ pub fn offer(words: &[u8], book: &mut [u8], machine: u32, revision: u32, price: 
 }
 
 // A ring founded in the lent bytes with its card slice, whoever is to found it. Neither is loaded, since an accepted call writes both whole.
-pub fn fresh(words: &mut [u8], book: &mut [u8], identifiers: &[u8], founder: Option<u32>) -> Result<(), Refusal>
+pub fn fresh(
+    words: &mut [u8],
+    book: &mut [u8],
+    identifiers: &[u8],
+    founder: Option<u32>,
+) -> Result<(), Refusal>
     ensures { fresh_by_cards_bytes words.old book.old identifiers.now (founder_of founder (words_of identifiers.now)) ≡ record { code = refusal result; bytes = words.new; book = book.new } }
 {
     if words.len() < RECORD_BYTES {

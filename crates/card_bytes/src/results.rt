@@ -28,7 +28,11 @@ pub(crate) fn finish_step(
 }
 
 // An offer that leaves the words k, whatever the record is. Its answer is quiet, and has nothing to tell.
-pub(crate) fn finish_offer(book: &mut [u8], k: &[u32], r: Result<Answer, Refusal>) -> Result<(), Refusal>
+pub(crate) fn finish_offer(
+    book: &mut [u8],
+    k: &[u32],
+    r: Result<Answer, Refusal>,
+) -> Result<(), Refusal>
     requires { 4 * length k.now ≤ length book.old }
     ensures { (w : List ℕ) → taken book.old (record { outcome = r; slice = w; cards = k.now }) ≡ record { code = refusal result; book = book.new } }
 {

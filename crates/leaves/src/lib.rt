@@ -16,7 +16,11 @@ pub fn leave_req(h: Row, m: Message) -> Result<Decision, Refusal>
     match s {
         states::INSIDE..=states::LEAVING => {
             if h.lock == 1 {
-                return Ok(Decision::Send(h, note(kinds::LEAVERETRY, m.to, m.from, 0), Answer::Quiet));
+                return Ok(Decision::Send(
+                    h,
+                    note(kinds::LEAVERETRY, m.to, m.from, 0),
+                    Answer::Quiet,
+                ));
             }
             let mut granting = h;
             granting.lock = 1;

@@ -8,7 +8,12 @@ use protocol::{Answer, Refusal};
 use word_bytes::save;
 
 // A step that leaves the words w.
-pub(crate) fn finish(words: &mut [u8], out: &mut [u8], w: &[u32], r: Result<Answer, Refusal>) -> Result<(), Refusal>
+pub(crate) fn finish(
+    words: &mut [u8],
+    out: &mut [u8],
+    w: &[u32],
+    r: Result<Answer, Refusal>,
+) -> Result<(), Refusal>
     requires { (4 * length w.now ≤ length words.old) × (20 ≤ length out.old) }
     ensures { carried words.old out.old (record { outcome = r; slice = w.now }) ≡ record { code = refusal result; bytes = words.new; output = out.new } }
 {
@@ -31,7 +36,11 @@ pub(crate) fn finish_owner(out: &mut [u8], r: Result<u32, Refusal>) -> Result<()
 }
 
 // A fresh call that leaves the words w. Its answer is quiet, and has nothing to tell.
-pub(crate) fn finish_fresh(words: &mut [u8], w: &[u32], r: Result<Answer, Refusal>) -> Result<(), Refusal>
+pub(crate) fn finish_fresh(
+    words: &mut [u8],
+    w: &[u32],
+    r: Result<Answer, Refusal>,
+) -> Result<(), Refusal>
     requires { 4 * length w.now ≤ length words.old }
     ensures { fresh_carried words.old (record { outcome = r; slice = w.now }) ≡ record { code = refusal result; bytes = words.new } }
 {

@@ -16,7 +16,12 @@ use sheet_writing::write_sheet_bytes;
 const COUNTS_BYTES: usize = 16;
 
 // The hubs of an office sheet, into the lent identifiers and names.
-pub fn read(text: &[u8], identifiers: &mut [u8], names: &mut [u8], counts: &mut [u8]) -> Result<(), Refusal>
+pub fn read(
+    text: &[u8],
+    identifiers: &mut [u8],
+    names: &mut [u8],
+    counts: &mut [u8],
+) -> Result<(), Refusal>
     ensures { sheet_read text.now identifiers.old names.old counts.old ≡ record { code = refusal result; identifiers = identifiers.new; names = names.new; counts = counts.new } }
 {
     if counts.len() < COUNTS_BYTES {
@@ -27,7 +32,12 @@ pub fn read(text: &[u8], identifiers: &mut [u8], names: &mut [u8], counts: &mut 
 }
 
 // The office sheet of names and identifiers, into the lent text.
-pub fn write(names: &[u8], identifiers: &[u8], text: &mut [u8], counts: &mut [u8]) -> Result<(), Refusal>
+pub fn write(
+    names: &[u8],
+    identifiers: &[u8],
+    text: &mut [u8],
+    counts: &mut [u8],
+) -> Result<(), Refusal>
     ensures { sheet_write names.now identifiers.now text.old counts.old ≡ record { code = refusal result; text = text.new; counts = counts.new } }
 {
     if counts.len() < COUNTS_BYTES {
