@@ -1,5 +1,4 @@
-ghost use Rattle.std.specs.Prelude.{◌≡◌, nat_eq};
-ghost use Rattle.lists.specs.Basics.{when◌then◌else◌};
+ghost use Rattle.std.specs.Prelude.{◌≡◌};
 ghost use Rattle.protocol.specs.Answers.{kind_of, raised, count_of, raised_at, counted as counted_spec};
 
 use protocol::{Answer, Refusal, Tally, answer_kinds};
@@ -8,10 +7,7 @@ use protocol::{Answer, Refusal, Tally, answer_kinds};
 fn raise(n: u64) -> u64
     ensures { result ≡ raised n }
 {
-    if n < 18446744073709551615 {
-        return n + 1;
-    }
-    n
+    n.saturating_add(1)
 }
 
 // An answer's kind is its place among the nine counts.
@@ -45,31 +41,24 @@ fn count_of(o: Result<Answer, Refusal>) -> u32
     }
 }
 
-// The count in place j, which is raised where k is that place.
-fn count_at(k: u32, j: u32, n: u64) -> u64
-    ensures { result ≡ (when nat_eq k j then raised n else n) }
-{
-    if k == j {
-        return raise(n);
-    }
-    n
-}
-
-// The tally with the count in place k raised.
+// The tally with the count in place k raised. A number that no kind has raises none.
 pub fn raised_at(k: u32, t: Tally) -> Tally
     ensures { result ≡ raised_at k t }
 {
-    Tally {
-        quiet: count_at(k, answer_kinds::QUIET, t.quiet),
-        found: count_at(k, answer_kinds::FOUND, t.found),
-        entered: count_at(k, answer_kinds::ENTERED, t.entered),
-        gone: count_at(k, answer_kinds::GONE, t.gone),
-        join_turned_away: count_at(k, answer_kinds::JOIN_TURNED_AWAY, t.join_turned_away),
-        leave_turned_away: count_at(k, answer_kinds::LEAVE_TURNED_AWAY, t.leave_turned_away),
-        joined: count_at(k, answer_kinds::JOINED, t.joined),
-        left: count_at(k, answer_kinds::LEFT, t.left),
-        refused: count_at(k, answer_kinds::REFUSAL, t.refused),
+    let mut raised = t;
+    match k {
+        answer_kinds::QUIET => raised.quiet = raise(t.quiet),
+        answer_kinds::FOUND => raised.found = raise(t.found),
+        answer_kinds::ENTERED => raised.entered = raise(t.entered),
+        answer_kinds::GONE => raised.gone = raise(t.gone),
+        answer_kinds::JOIN_TURNED_AWAY => raised.join_turned_away = raise(t.join_turned_away),
+        answer_kinds::LEAVE_TURNED_AWAY => raised.leave_turned_away = raise(t.leave_turned_away),
+        answer_kinds::JOINED => raised.joined = raise(t.joined),
+        answer_kinds::LEFT => raised.left = raise(t.left),
+        answer_kinds::REFUSAL => raised.refused = raise(t.refused),
+        _ => {}
     }
+    raised
 }
 
 // The tally after a step with this outcome.

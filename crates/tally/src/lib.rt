@@ -2,9 +2,7 @@
 #![tactic(auto)]
 
 mod counts;
-mod lending;
 mod perform;
 
 pub use counts::{counted, raised_at};
-pub use lending::{Tallied, lend};
 pub use perform::step;

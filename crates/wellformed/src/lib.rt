@@ -6,10 +6,12 @@
 mod content;
 mod differ;
 mod message;
+mod opening;
 mod row;
 mod whole;
 mod zeros;
 
 pub use differ::all_differ;
+pub use opening::questions;
 pub use whole::well_formed;
 pub use zeros::all_zero;
