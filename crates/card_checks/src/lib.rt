@@ -3,6 +3,7 @@
 
 mod buckets;
 mod cards;
+mod checked;
 mod content;
 mod digits;
 mod machines;
@@ -11,6 +12,7 @@ mod members;
 mod owners;
 mod preds;
 
+pub use checked::checked_names;
 pub use content::book_ok;
 pub use marks::others;
 pub use owners::{names_of, nearest, reach};

@@ -1,5 +1,5 @@
 -- The hub of an entered or gone answer is one of the record's. For every well-formed state and command. Assumes nothing.
-use Rattle.std.specs.Prelude.{◌≡◌, Bool, ◌&&◌, ℕ, ◌<◌, ◌≤◌, length}
+use Rattle.std.specs.Prelude.{◌≡◌, refl, List, Bool, ◌&&◌, ℕ, ◌<◌, ◌≤◌, length}
 use Rattle.std.proofs.Common.{sym, subst, arith, eqb→eq, ltb→lt}
 use Rattle.std.proofs.Common.{nat_lt, nat_eq}
 use Rattle.std.proofs.Math.Dec.{T}
@@ -23,6 +23,7 @@ use Rattle.protocol.specs.Kinds as kinds
 use Rattle.protocol.specs.Kinds.{lookup_routed, join_routed, handle}
 use Rattle.protocol.specs.Step as step
 use Rattle.protocol.specs.Step.{Result, refused, accepted, conclude, asking, oldest, delivered}
+use Rattle.protocol.specs.Cards.{following}
 use Rattle.layout.specs.Form.{Form, MessageForm}
 
 -- the hub that an answer moves is below n
@@ -45,6 +46,19 @@ bound_more n m (JoinTurnedAway hub) l b = tt
 bound_more n m (LeaveTurnedAway hub) l b = tt
 bound_more n m (Joined hub) l b = tt
 bound_more n m (Left hub) l b = tt
+
+-- An answer in which no hub enters or goes is handed on: record and cards stay.
+pub handed_on : (w k slice : List ℕ) (a : Answer) → ((x : ℕ) → a ≡ Entered x → ⊥) → ((x : ℕ) → a ≡ Gone x → ⊥)
+    → following w k slice a ≡ record { outcome = Ok a; slice = slice; cards = k }
+unfolding following
+handed_on w k slice Quiet e g = refl
+handed_on w k slice (Found hub number ticket hops) e g = refl
+handed_on w k slice (Entered hub) e g = absurd (e hub refl)
+handed_on w k slice (Gone hub) e g = absurd (g hub refl)
+handed_on w k slice (JoinTurnedAway hub) e g = refl
+handed_on w k slice (LeaveTurnedAway hub) e g = refl
+handed_on w k slice (Joined hub) e g = refl
+handed_on w k slice (Left hub) e g = refl
 
 module _ (n : ℕ) where
   abbrev Mild : Decided → Type 0

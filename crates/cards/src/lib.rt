@@ -5,7 +5,6 @@
 mod moves;
 mod new_book;
 mod perform;
-mod undo;
 
 pub use new_book::fresh;
 pub use perform::step;

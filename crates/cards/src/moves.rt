@@ -17,17 +17,15 @@ fn hand_over(k: &mut [u32], m: usize, id: u32, far: u32, hub: u32)
     requires { (Neat k.old) × (m ≡ cards_in k.old) }
     ensures { k.new ≡ put_book k.old (record { marks = marks_in k.old; cards = map (handed id far hub) (read_book k.old).cards }) }
 {
-    let mut j = 0;
-    while j < m {
+    for j in 0..m {
         let at = CARDS_AT + CARD_WORDS * j;
         k[at + 3] = pick(distance(k[at], id) <= far, hub, k[at + 3]);
-        j += 1;
     }
 }
 
 // Node h is marked, and the machines within its reach come to it.
-pub(crate) fn enter(k: &mut [u32], names: &[u32], h: u32)
-    requires { (Neat k.old) × (length names.now ≡ most_nodes) × (h < most_nodes) }
+pub(crate) fn enter(k: &mut [u32], names: &[u32; 64], h: u32)
+    requires { (Neat k.old) × (h < most_nodes) }
     ensures { (ids : List ℕ) → Ready ids names.now k.old → h < length ids → k.new ≡ put_book k.old (moved ids (read_book k.old) (set (marks_in k.old) h 1)) }
 {
     let m = k[0] as usize;
@@ -39,8 +37,8 @@ pub(crate) fn enter(k: &mut [u32], names: &[u32], h: u32)
 }
 
 // The mark of node h is taken away, and its machines go to whoever is next. A node without a mark has no card.
-pub(crate) fn leave(k: &mut [u32], names: &[u32], h: u32)
-    requires { (Neat k.old) × (length names.now ≡ most_nodes) × (h < most_nodes) }
+pub(crate) fn leave(k: &mut [u32], names: &[u32; 64], h: u32)
+    requires { (Neat k.old) × (h < most_nodes) }
     ensures { (ids : List ℕ) → Ready ids names.now k.old → h < length ids → (m : ℕ) → Marked (set (marks_in k.old) h 0) m → k.new ≡ put_book k.old (moved ids (read_book k.old) (set (marks_in k.old) h 0)) }
 {
     let m = k[0] as usize;

@@ -18,7 +18,12 @@ fn write_new(k: &mut [u32], node: usize)
 }
 
 // A ring founded with its card slice, whoever is to found it. Fresh asks all its questions before it writes, so a refusal changes no word of either.
-pub fn fresh(w: &mut [u32], k: &mut [u32], identifiers: &[u32], founder: Option<u32>) -> Result<Answer, Refusal>
+pub fn fresh(
+    w: &mut [u32],
+    k: &mut [u32],
+    identifiers: &[u32],
+    founder: Option<u32>,
+) -> Result<Answer, Refusal>
     ensures { fresh_by_cards w.old k.old identifiers.now (founder_of founder identifiers.now) ≡ record { outcome = result; slice = w.new; cards = k.new } }
 {
     if w.len() < RECORD_WORDS {

@@ -11,18 +11,23 @@ ghost use Rattle.card_checks.specs.Ready.{Ready};
 ghost use Rattle.cards.specs.Movers.{Bound};
 
 use crate::moves::{enter, leave};
-use crate::undo::{restore, save};
 use card_checks::{book_ok, names_of, others};
 use protocol::form::{BOOK_WORDS, CARDS_AT, MARKS_AT, RECORD_WORDS};
 use protocol::{Answer, Refusal};
 
 // A gone answer. Where it would strike off the only member, the record is put back: w₀ is the record as it came.
-fn depart(w: &mut [u32], k: &mut [u32], names: &[u32], saved: &[u32], h: u32) -> Result<Answer, Refusal>
-    requires { (Neat k.old) × (length names.now ≡ most_nodes) × (length saved.now ≡ record_size) × (record_size ≤ length w.old) × (h < most_nodes) }
+fn depart(
+    w: &mut [u32],
+    k: &mut [u32],
+    names: &[u32; 64],
+    saved: &[u32; RECORD_WORDS],
+    h: u32,
+) -> Result<Answer, Refusal>
+    requires { (Neat k.old) × (record_size ≤ length w.old) × (h < most_nodes) }
     ensures { (w₀ : List ℕ) → w₀ ≡ saved.now ++ drop record_size w.old → Ready (identifiers (read w₀)) names.now k.old → h < length (identifiers (read w₀)) → following w₀ k.old w.old (GoneAnswer h) ≡ record { outcome = result; slice = w.new; cards = k.new } }
 {
     if others(&k[MARKS_AT..CARDS_AT], h as usize) == 0 {
-        restore(w, saved);
+        w[..RECORD_WORDS].copy_from_slice(saved);
         return Err(Refusal::NotWellFormed);
     }
     leave(k, names, h);
@@ -30,47 +35,42 @@ fn depart(w: &mut [u32], k: &mut [u32], names: &[u32], saved: &[u32], h: u32) ->
 }
 
 // What an answer does to the cards. w is the record as the step left it, `saved` its words as they came.
-fn follow(w: &mut [u32], k: &mut [u32], names: &[u32], saved: &[u32], a: Answer) -> Result<Answer, Refusal>
-    requires { (Neat k.old) × (length names.now ≡ most_nodes) × (length saved.now ≡ record_size) × (record_size ≤ length w.old) × (Bound most_nodes a) }
+fn follow(
+    w: &mut [u32],
+    k: &mut [u32],
+    names: &[u32; 64],
+    saved: &[u32; RECORD_WORDS],
+    a: Answer,
+) -> Result<Answer, Refusal>
+    requires { (Neat k.old) × (record_size ≤ length w.old) × (Bound most_nodes a) }
     ensures { (w₀ : List ℕ) → w₀ ≡ saved.now ++ drop record_size w.old → Ready (identifiers (read w₀)) names.now k.old → Bound (length (identifiers (read w₀))) a → following w₀ k.old w.old a ≡ record { outcome = result; slice = w.new; cards = k.new } }
 {
     match a {
-        Answer::Quiet => Ok(Answer::Quiet),
-        Answer::Found {
-            hub,
-            number,
-            ticket,
-            hops,
-        } => Ok(Answer::Found {
-            hub,
-            number,
-            ticket,
-            hops,
-        }),
         Answer::Entered(h) => {
             enter(k, names, h);
-            Ok(Answer::Entered(h))
+            Ok(a)
         }
         Answer::Gone(h) => depart(w, k, names, saved, h),
-        Answer::JoinTurnedAway(h) => Ok(Answer::JoinTurnedAway(h)),
-        Answer::LeaveTurnedAway(h) => Ok(Answer::LeaveTurnedAway(h)),
-        Answer::Joined(h) => Ok(Answer::Joined(h)),
-        Answer::Left(h) => Ok(Answer::Left(h)),
+        _ => Ok(a),
     }
 }
 
 // The command, on a record and cards that have passed questions 1 and 2.
-fn perform(w: &mut [u32], k: &mut [u32], names: &[u32], operation: u32, x: u32, y: u32) -> Result<Answer, Refusal>
-    requires { (Valid w.old) × (length names.now ≡ most_nodes) × (Ready (identifiers (read w.old)) names.now k.old) }
+fn perform(
+    w: &mut [u32],
+    k: &mut [u32],
+    names: &[u32; 64],
+    operation: u32,
+    x: u32,
+    y: u32,
+) -> Result<Answer, Refusal>
+    requires { (Valid w.old) × (Ready (identifiers (read w.old)) names.now k.old) }
     ensures { after_call w.old k.old (step_call w.old operation x y).slice (step_call w.old operation x y).outcome ≡ record { outcome = result; slice = w.new; cards = k.new } }
 {
     let mut saved = [0u32; RECORD_WORDS];
-    save(w, &mut saved);
-    let r = steps::run(w, operation, x, y);
-    match r {
-        Err(number) => Err(number),
-        Ok(a) => follow(w, k, names, &saved, a),
-    }
+    saved.copy_from_slice(&w[..RECORD_WORDS]);
+    let a = steps::run(w, operation, x, y)?;
+    follow(w, k, names, &saved, a)
 }
 
 // One command on the record, with its cards. Every two slices and every three numbers are taken; what is wrong is refused by its number, and a

@@ -1,5 +1,4 @@
 -- `hand_over`: the first j cards are handed over. Assumes nothing.
-use borrow.Author.Rules.{rules}
 use mathlib.Core.Path.{◌≡◌, refl, sym, ◌∙◌, ap}
 use Prim.Native.Nat.{ℕ, ◌+◌, ◌<◌}
 use native.Mathlib.Omega.{arith}
@@ -16,7 +15,7 @@ use Rattle.cards.proofs.moves.hand_over.Goals as goal
 
 pub loop-j-init : goal.loop-j-init
 unfolding put_book
-loop-j-init c = let k = c.args.k.now in (search rules, refl, sym (book_read k c.requires.0))
+loop-j-init c = let k = c.args.k.now in (refl, sym (book_read k c.requires.0))
 
 pub loop-j-preserved : goal.loop-j-preserved
 unfolding put_book
@@ -29,12 +28,12 @@ loop-j-preserved c = let a = c.args in
     let p : Card → ℕ = λ z. when nat_le (dist round z.machine a.id) a.far then a.hub else z.hub in
     let e : c.pick.result ≡ p (get_or (read_book k).cards l.j Rattle.protocol.specs.Cards.no_card) =
     c.pick.ensures ∙ ap (λ z. when nat_le z a.far then a.hub else get_or l.k (card_start l.j + 3) 0) c.distance.ensures
-    ∙ ap p (ap (λ z. card_from z (card_start l.j)) l.invariant.2 ∙ handed_read a.id a.far a.hub (read_book k) t f l.j u) in
-    (search rules, simp length-set l.invariant.1, ap (λ z. set z (card_start l.j + 3) c.pick.result) l.invariant.2 ∙ handed_more a.id a.far a.hub (read_book k) t f l.j u c.pick.result e)
+    ∙ ap p (ap (λ z. card_from z (card_start l.j)) l.invariant.1 ∙ handed_read a.id a.far a.hub (read_book k) t f l.j u) in
+    (simp length-set l.invariant.0, ap (λ z. set z (card_start l.j + 3) c.pick.result) l.invariant.1 ∙ handed_more a.id a.far a.hub (read_book k) t f l.j u c.pick.result e)
 
 pub returns : goal.returns
 unfolding read_book
 returns c = let k = c.args.k.now in
     let l = c.loop-j in
     let e : l.j ≡ length (read_book k).cards = omega (arith, count_of_book k, c.requires.1) in
-    l.invariant.2 ∙ ap (λ z. put_book k (handed_book c.args.id c.args.far c.args.hub (read_book k) z)) e ∙ ap (put_book k) (handed_all c.args.id c.args.far c.args.hub (read_book k))
+    l.invariant.1 ∙ ap (λ z. put_book k (handed_book c.args.id c.args.far c.args.hub (read_book k) z)) e ∙ ap (put_book k) (handed_all c.args.id c.args.far c.args.hub (read_book k))

@@ -9,15 +9,12 @@ pub returns-then-k-node-eq0 : goal.returns-then-k-node-eq0
 returns-then-k-node-eq0 c = let a = c.args in
     λ ids r l m i. stay_law ids a.names.now a.k.now r a.h l c.if-k-node-eq0.true
 
-pub slice_bounds-nearest-end : goal.slice_bounds-nearest-end
-slice_bounds-nearest-end c = simp length-set (omega arith)
-
 pub hand_over-requires : goal.hand_over-requires
-hand_over-requires c = (marked_neat c.args.k.now c.requires.0 c.args.h 0 c.requires.2, sym (marked_count c.args.k.now c.requires.0 c.args.h 0 c.requires.2))
+hand_over-requires c = (marked_neat c.args.k.now c.requires.0 c.args.h 0 c.requires.1, sym (marked_count c.args.k.now c.requires.0 c.args.h 0 c.requires.1))
 
 pub shape_of-k : goal.shape_of-k
 shape_of-k c = c.hand_over.auto.k ∙ simp length-set refl
 
 pub returns : goal.returns
 returns c = let a = c.args in
-    λ ids r l m i. leave_law ids a.names.now a.k.now r a.h l _ _ _ _ c.if-k-node-eq0.false m i refl (omega (arith, c.shared_slice_known-2-1.given a.h)) c.reach-far.ensures c.nearest-next.ensures c.hand_over.ensures
+    λ ids r l m i. leave_law ids a.names.now a.k.now r a.h l _ _ _ _ c.if-k-node-eq0.false m i refl (omega (arith, c.fits-names a.h)) c.reach-far.ensures c.nearest-next.ensures c.hand_over.ensures

@@ -45,7 +45,7 @@ pub perform-requires : goal.perform-requires
 perform-requires c = let w = c.args.w.now in
     let k = c.args.k.now in
     let v = valid w c.if-w-lt-RECORD_WORDS.false (sym c.well_formed-2.ensures ∙ c.if-not-well_formed.false) in
-    (v, c.names_of-names.ensures.0, ready w c.names_of-names.result k v c.names_of-names.ensures.1 c.if-k-lt-BOOK_WORDS.false (sym c.book_ok.ensures ∙ c.if-not-book_ok.false) (λ i. omega (arith, c.slice_known-1.given i)) (λ i. omega (arith, c.slice_known-2-1.given i)))
+    (v, ready w c.names_of-names.result k v c.names_of-names.ensures.1 c.if-k-lt-BOOK_WORDS.false (sym c.book_ok.ensures ∙ c.if-not-book_ok.false) (λ i. omega (arith, c.slice_known-1.given i)) (λ i. omega (arith, c.slice_known-2-1.given i)))
 
 pub returns : goal.returns
 unfolding step_cards
