@@ -6,8 +6,7 @@ use Prim.Native.Nat.{ℕ, zero, suc, ◌+◌, ◌*◌, ◌≤◌, ◌<◌}
 use Rattle.std.proofs.Math.ListN.{length}
 use Rattle.std.proofs.Math.Seq.{take-length}
 use Rattle.std.proofs.lemmas.List.{get_or_at}
-use Rattle.lists.specs.Basics.{when◌then◌else◌, flat, All}
-use Rattle.lists.specs.Members.{all_mem, mem_at}
+use Rattle.lists.specs.Basics.{when◌then◌else◌, flat}
 use Rattle.lists.specs.Blocks.{flat_split, length_front}
 use Rattle.protocol.specs.declared.Answer.{Answer}
 use Rattle.protocol.specs.declared.Answer.TheVariants.{Quiet, Found, Entered, Gone, JoinTurnedAway, LeaveTurnedAway, Joined, Left}
@@ -17,7 +16,6 @@ use Rattle.std.specs.Prelude.{Err, Ok}
 use Rattle.protocol.specs.declared.Tally.{Tally}
 use Rattle.protocol.specs.Names.{REFUSAL}
 use Rattle.protocol.specs.Answers.{answer_words, kind_of, count_of, raised_at, counted}
-use Rattle.protocol.specs.Calls.{step_call}
 use Rattle.protocol.specs.Batch.{ask_each, place_size, place_words, BatchCalled, unasked, batch_written, batch_call, batch_outcomes, counted_all}
 use Rattle.layout.specs.Questions.{batch_both}
 use Rattle.layout.specs.Questions.{above_0}

@@ -1,20 +1,10 @@
 // The questions counted by what stands in their places.
 ghost use Rattle.std.specs.Prelude.{◌≡◌, ◌+◌, ◌*◌, ◌≤◌, ◌<◌, length};
 ghost use Rattle.protocol.specs.Batch.{place_size};
-ghost use Rattle.batch_tally.specs.Places.{written_places, count_at, counted_places};
+ghost use Rattle.batch_tally.specs.Places.{count_at, counted_places};
 
 use protocol::form::PLACE_WORDS;
-use protocol::{Answer, Refusal, Tally, answer_kinds};
-
-// How many places a call with n numbers has written: none, where it is refused.
-pub(crate) fn written(r: Result<Answer, Refusal>, n: usize) -> usize
-    ensures { result ≡ written_places r n }
-{
-    match r {
-        Err(_) => 0,
-        Ok(_) => n,
-    }
-}
+use protocol::{Tally, answer_kinds};
 
 // The count that the place from word `at` on raises: that of refusals, or that of its answer's kind.
 fn count_at(outcomes: &[u32], at: usize) -> u32
@@ -33,11 +23,9 @@ pub(crate) fn count_each(t: Tally, outcomes: &[u32], n: usize) -> Tally
     ensures { result ≡ counted_places t outcomes.now n }
 {
     let mut kept = t;
-    let mut i = 0;
-    while i < n {
+    for i in 0..n {
         let k = count_at(outcomes, PLACE_WORDS * i);
         kept = tally::raised_at(k, kept);
-        i += 1;
     }
     kept
 }

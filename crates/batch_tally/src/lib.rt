@@ -2,7 +2,6 @@
 #![tactic(auto)]
 
 mod counts;
-mod lending;
 mod perform;
 
 pub use perform::ask;

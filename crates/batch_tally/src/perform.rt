@@ -1,7 +1,7 @@
 ghost use Rattle.std.specs.Prelude.{◌≡◌};
 ghost use Rattle.protocol.specs.Batch.{batch_call, batch_outcomes, counted_all};
 
-use crate::lending::{ask_tallied, outcome_of, tally_of};
+use crate::counts::count_each;
 use protocol::{Answer, Refusal, Tally};
 
 // The numbers asked at the node as `batches::ask` asks them, with the caller's tally lent. Every slice and every number is taken; a refused
@@ -16,8 +16,8 @@ pub fn ask(
     ensures { (batch_call w.old node numbers.now outcomes.old ≡ record { outcome = result; slice = w.new; output = outcomes.new })
         × (t.new ≡ counted_all t.old (batch_outcomes w.old node numbers.now outcomes.old)) }
 {
+    let answer = batches::ask(w, node, numbers, outcomes)?;
     let before = *t;
-    let r = ask_tallied(w, node, numbers, outcomes, before);
-    *t = tally_of(r);
-    outcome_of(r)
+    *t = count_each(before, outcomes, numbers.len());
+    Ok(answer)
 }

@@ -1,7 +1,9 @@
 -- The questions of each call, in the words' terms: which facts lead to which refusal, and to the call's result. Assumes nothing.
-use Rattle.std.specs.Prelude.{◌≡◌, true, false, List, [], ℕ, ◌≤◌, ◌<◌, length, take, drop}
+use Rattle.std.specs.Prelude.{◌≡◌, true, false, List, [], ℕ, ◌≤◌, ◌<◌, length, take, drop, Option, None, Some, MatchOption}
 use Rattle.std.proofs.Common.{sym, ◌∙◌}
 use Rattle.std.proofs.Math.Path.{ap}
+use Rattle.std.specs.Option.{ok_or}
+use native.Mathlib.Omega.{arith}
 use Rattle.std.proofs.Common.{nat_lt}
 use borrow.Author.Tests.{lt-ltb, le-ltb}
 use Rattle.lists.specs.Choice.{on_yes, on_no}
@@ -53,6 +55,10 @@ module _ (w : List ℕ) where
       pub owner_holder : k < n → owner_call w v ≡ Ok k
       unfolding owner_call
       owner_holder l = record_rest w Err _ ok.long ok.formed ∙ on_yes _ _ _ (ap (λ z. nat_lt z n) (sym e) ∙ lt-ltb k n l) ∙ ap Ok (sym e)
+
+    pub owner_found : Valid w → (o : Option ℕ) → MatchOption o (lowest_holder (read w) v ≡ n) (λ node. (node ≡ lowest_holder (read w) v) × (node < n)) → owner_call w v ≡ ok_or o NoHolder
+    owner_found ok None e = owner_15 ok n (sym e) (omega arith)
+    owner_found ok (Some node) m = owner_holder ok node m.0 m.1
 
   -- the hub row
   module _ (node : ℕ) where

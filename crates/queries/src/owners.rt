@@ -1,11 +1,10 @@
 // The owner query: 'does some hub hold the number? 15 (the lowest hub number if several).'
-ghost use Rattle.std.specs.Prelude.{◌≡◌};
-ghost use Rattle.protocol.specs.Record.{read};
+ghost use Rattle.std.specs.Prelude.{◌≡◌, ◌<◌, MatchOption};
+ghost use Rattle.protocol.specs.Record.{count_in, read};
 ghost use Rattle.protocol.specs.Membership.{holds as holds_spec};
 ghost use Rattle.protocol.specs.Calls.{lowest_holder, owner_call};
 ghost use Rattle.layout.specs.Form.{Valid};
 
-use protocol::form::RECORD_WORDS;
 use protocol::Refusal;
 use record::{identifier_of, row_of};
 use routing::{covers, responsible};
@@ -24,35 +23,23 @@ fn holds(w: &[u32], node: u32, v: u32) -> bool
     covers(p, h, v)
 }
 
-// The lowest node that holds v, or the number of nodes where none does.
-fn first_holder(w: &[u32], v: u32) -> u32
+// The lowest node that holds v.
+fn first_holder(w: &[u32], v: u32) -> Option<u32>
     requires { Valid w.now }
-    ensures { result ≡ lowest_holder (read w.now) v }
+    ensures { MatchOption result (lowest_holder (read w.now) v ≡ count_in w.now) (λ node. (node ≡ lowest_holder (read w.now) v) × (node < count_in w.now)) }
 {
-    let n = w[1];
-    let mut node: u32 = 0;
-    while node < n {
+    for node in 0..w[1] {
         if holds(w, node, v) {
-            return node;
+            return Some(node);
         }
-        node += 1;
     }
-    n
+    None
 }
 
 // The node that holds a number.
 pub fn owner(w: &[u32], number: u32) -> Result<u32, Refusal>
     ensures { result ≡ owner_call w.now number }
 {
-    if w.len() < RECORD_WORDS {
-        return Err(Refusal::RecordShort);
-    }
-    if !wellformed::well_formed(w) {
-        return Err(Refusal::NotWellFormed);
-    }
-    let node = first_holder(w, number);
-    if node < w[1] {
-        return Ok(node);
-    }
-    Err(Refusal::NoHolder)
+    wellformed::questions(w)?;
+    first_holder(w, number).ok_or(Refusal::NoHolder)
 }

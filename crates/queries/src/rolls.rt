@@ -5,8 +5,8 @@ ghost use Rattle.protocol.specs.Calls.{complete, roll as roll_spec, roll_call, n
 ghost use Rattle.layout.specs.Form.{Valid};
 ghost use Rattle.queries.specs.Rolls.{Room, rolled_from, preceded};
 
-use protocol::form::{NONE, RECORD_WORDS};
 use protocol::Refusal;
+use protocol::form::NONE;
 use record::row_of;
 use routing::in_ring;
 
@@ -24,22 +24,30 @@ fn put_last(output: &mut [u32], at: u32, node: u32) -> Result<u32, Refusal>
 }
 
 // A node at its place, where what follows it is written; after a refusal nothing is.
-fn put_before(output: &mut [u32], at: u32, node: u32, rest: Result<u32, Refusal>) -> Result<u32, Refusal>
+fn put_before(
+    output: &mut [u32],
+    at: u32,
+    node: u32,
+    rest: Result<u32, Refusal>,
+) -> Result<u32, Refusal>
     requires { Room output.old at rest }
     ensures { preceded output.old at node rest ≡ record { outcome = result; output = output.new } }
 {
-    match rest {
-        Err(k) => Err(k),
-        Ok(k) => {
-            output[at as usize] = node;
-            Ok(k)
-        }
-    }
+    let length = rest?;
+    output[at as usize] = node;
+    Ok(length)
 }
 
 // The roll from a node on, of at most so many nodes as are left, written from a place of the output on. It is written on the way back,
 // when it is known that the roll ends and that the output has room for it: a refusal writes nothing.
-fn roll(w: &[u32], start: u32, left: u32, node: u32, output: &mut [u32], at: u32) -> Result<u32, Refusal>
+fn roll(
+    w: &[u32],
+    start: u32,
+    left: u32,
+    node: u32,
+    output: &mut [u32],
+    at: u32,
+) -> Result<u32, Refusal>
     requires { (Valid w.now) × (at + left ≤ most_nodes) }
     ensures { rolled_from output.old at (roll_spec (read w.now) start left node) ≡ record { outcome = result; output = output.new } }
 {
@@ -78,11 +86,6 @@ pub fn roll_call(w: &[u32], node: u32, output: &mut [u32]) -> Result<u32, Refusa
     ensures { (roll_call w.now node output.old ≡ record { outcome = result; output = output.new })
         × (roll_numbers w.now node output.old ≡ numbered output.new result) }
 {
-    if w.len() < RECORD_WORDS {
-        return Err(Refusal::RecordShort);
-    }
-    if !wellformed::well_formed(w) {
-        return Err(Refusal::NotWellFormed);
-    }
+    wellformed::questions(w)?;
     roll_from(w, node, output)
 }

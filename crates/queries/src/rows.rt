@@ -3,7 +3,7 @@ ghost use Rattle.std.specs.Prelude.{◌≡◌};
 ghost use Rattle.protocol.specs.Calls.{row_call};
 ghost use Rattle.layout.specs.Form.{Valid};
 
-use protocol::form::{RECORD_WORDS, ROW_WORDS, ROWS_AT};
+use protocol::form::{ROW_WORDS, ROWS_AT};
 
 // The words of a node, or an empty part where there is no such node.
 fn row_part(w: &[u32], node: u32) -> &[u32]
@@ -22,11 +22,8 @@ fn row_part(w: &[u32], node: u32) -> &[u32]
 pub fn hub_row(w: &[u32], node: u32) -> &[u32]
     ensures { result.now ≡ row_call w.now node }
 {
-    if w.len() < RECORD_WORDS {
-        return &w[0..0];
+    match wellformed::questions(w) {
+        Err(_) => &w[0..0],
+        Ok(()) => row_part(w, node),
     }
-    if wellformed::well_formed(w) {
-        return row_part(w, node);
-    }
-    &w[0..0]
 }

@@ -1,32 +1,23 @@
--- `owner`: at each return the questions asked so far decide the call. Assumes nothing.
-use mathlib.Core.Path.{sym, ◌∙◌}
-use Rattle.layout.specs.Form.{valid}
-use Rattle.queries.specs.Questions.{owner_1, owner_2, owner_15, owner_holder}
+-- `owner`: a refusal by questions 1 and 2, or what the search for a holder says. Assumes nothing.
+use Rattle.std.specs.Prelude.{Err}
+use Rattle.std.proofs.Common.{ap, sym, ◌∙◌}
+use Rattle.std.proofs.lemmas.Result.{err_from_is_err_and}
+use Rattle.wellformed.specs.Questions.{refused_so, passed_so}
+use Rattle.protocol.specs.Calls.{owner_call}
+use Rattle.queries.specs.Questions.{owner_found}
 use Rattle.queries.proofs.owners.owner.Goals as goal
 
-pub returns-then-w-lt-RECORD_WORDS : goal.returns-then-w-lt-RECORD_WORDS
-returns-then-w-lt-RECORD_WORDS c = sym (owner_1 c.args.w.now c.args.number c.if-w-lt-RECORD_WORDS.true)
+pub returns-in_err-questions : goal.returns-in_err-questions
+unfolding owner_call
+returns-in_err-questions c =
+    let refused = err_from_is_err_and c.from_residual.result c.from_residual.ensures.1 in
+    refused.1 ∙ ap Err refused.2 ∙ sym (refused_so c.args.w.now Err _ _ c.in_err-questions.ensures)
 
-pub returns-then-not-well_formed : goal.returns-then-not-well_formed
-returns-then-not-well_formed c =
-    let a = c.args in
-    sym (owner_2 a.w.now a.number c.if-w-lt-RECORD_WORDS.false (sym c.well_formed-2.ensures ∙ c.if-not-well_formed.true))
-
-pub first_holder-node-requires : goal.first_holder-node-requires
-first_holder-node-requires c = valid c.args.w.now c.if-w-lt-RECORD_WORDS.false (sym c.well_formed-2.ensures ∙ c.if-not-well_formed.false)
-
-pub returns-then-node-w : goal.returns-then-node-w
-returns-then-node-w c =
-    let a = c.args in
-    let w = a.w.now in
-    let ok = valid w c.if-w-lt-RECORD_WORDS.false (sym c.well_formed-2.ensures ∙ c.if-not-well_formed.false) in
-    let k = c.first_holder-node in
-    sym (owner_holder w a.number ok k.result k.ensures c.if-node-w.true)
+pub first_holder-requires : goal.first_holder-requires
+first_holder-requires c = passed_so c.args.w.now c.in_ok-questions.ensures
 
 pub returns : goal.returns
 returns c =
     let a = c.args in
     let w = a.w.now in
-    let ok = valid w c.if-w-lt-RECORD_WORDS.false (sym c.well_formed-2.ensures ∙ c.if-not-well_formed.false) in
-    let k = c.first_holder-node in
-    sym (owner_15 w a.number ok k.result k.ensures c.if-node-w.false)
+    c.ok_or.ensures.value ∙ sym (owner_found w a.number (passed_so w c.in_ok-questions.ensures) c.first_holder.result c.first_holder.ensures)

@@ -1,14 +1,13 @@
--- `hub_row`: at each return the questions asked so far decide the call. Assumes nothing.
+-- `hub_row`: a refusal by questions 1 and 2 hands out nothing. Assumes nothing.
 use mathlib.Core.Path.{sym, ◌∙◌}
-use Rattle.layout.specs.Form.{valid}
-use Rattle.queries.specs.Questions.{row_1, row_2}
+use Rattle.std.specs.Prelude.{[]}
+use Rattle.wellformed.specs.Questions.{refused_so, passed_so}
+use Rattle.protocol.specs.Calls.{row_call}
 use Rattle.queries.proofs.rows.hub_row.Goals as goal
 
-pub returns-then-w-lt-RECORD_WORDS : goal.returns-then-w-lt-RECORD_WORDS
-returns-then-w-lt-RECORD_WORDS c = sym (row_1 c.args.w.now c.args.node c.if-w-lt-RECORD_WORDS.true)
+pub returns-in-Err : goal.returns-in-Err
+unfolding row_call
+returns-in-Err c = sym (refused_so c.args.w.now (λ k. []) _ _ (sym c.in-Err.is ∙ c.questions.ensures))
 
 pub row_part-requires : goal.row_part-requires
-row_part-requires c = valid c.args.w.now c.if-w-lt-RECORD_WORDS.false (sym c.well_formed-2.ensures ∙ c.if-well_formed.true)
-
-pub returns : goal.returns
-returns c = sym (row_2 c.args.w.now c.args.node c.if-w-lt-RECORD_WORDS.false (sym c.well_formed-2.ensures ∙ c.if-well_formed.false))
+row_part-requires c = passed_so c.args.w.now (sym c.in-Ok.is ∙ c.questions.ensures)
