@@ -1,40 +1,25 @@
 // An offered card: it replaces the kept one of its machine, goes last, or is refused.
-ghost use Rattle.std.specs.Prelude.{◌≡◌, List, ℕ, ◌+◌, ◌≤◌, ◌<◌, nat_eq, length, get_or};
-ghost use Rattle.std.proofs.lemmas.List.Edits.{sets};
+ghost use Rattle.std.specs.Prelude.{◌≡◌, List, ℕ, ◌+◌, ◌≤◌, ◌<◌, nat_eq, length, get_or, MatchOption};
 ghost use Rattle.lists.specs.Basics.{first};
 ghost use Rattle.lists.specs.Splice.{splice};
-ghost use Rattle.protocol.specs.Cards.{most_cards, book_size, card_size, card_start, card_words, cards_in, read_book, no_card, renewed, offered, offer_written, offer_call};
+ghost use Rattle.protocol.specs.Cards.{most_cards, book_size, card_start, card_words, cards_in, read_book, no_card, renewed, offered, offer_written, offer_call};
 ghost use Rattle.cardlayout.specs.Books.{Neat};
 
-use card_checks::{book_ok, names_of, nearest};
-use protocol::form::{BOOK_WORDS, CARD_WORDS, CARDS_AT, MARKS_AT, MOST_CARDS, RECORD_WORDS};
+use card_checks::{checked_names, nearest};
+use protocol::form::{CARD_WORDS, CARDS_AT, MARKS_AT, MOST_CARDS};
 use protocol::{Answer, Card, Refusal};
 
-// The place of the card of a machine, or the number of cards where there is none.
-fn find_card(k: &[u32], machine: u32) -> u32
+// The place of the card of a machine.
+fn find_card(k: &[u32], machine: u32) -> Option<u32>
     requires { (cards_in k.now ≤ most_cards) × (book_size ≤ length k.now) }
-    ensures { result ≡ first (λ j. nat_eq (get_or k.now (card_start j) 0) machine) (cards_in k.now) }
+    ensures { MatchOption result (first (λ j. nat_eq (get_or k.now (card_start j) 0) machine) (cards_in k.now) ≡ cards_in k.now) (λ j. (j ≡ first (λ i. nat_eq (get_or k.now (card_start i) 0) machine) (cards_in k.now)) × (j < cards_in k.now)) }
 {
-    let m = k[0];
-    let mut j: u32 = 0;
-    while j < m {
+    for j in 0..k[0] {
         if k[CARDS_AT + CARD_WORDS * (j as usize)] == machine {
-            return j;
+            return Some(j);
         }
-        j += 1;
     }
-    m
-}
-
-// Writes a card at the start of a part of the slice.
-fn write_card(part: &mut [u32], c: Card)
-    requires { card_size ≤ length part.old }
-    ensures { part.new ≡ sets part.old 0 (card_words c) }
-{
-    part[0] = c.machine;
-    part[1] = c.revision;
-    part[2] = c.price;
-    part[3] = c.hub;
+    None
 }
 
 fn put_card(k: &mut [u32], j: u32, c: Card)
@@ -42,7 +27,7 @@ fn put_card(k: &mut [u32], j: u32, c: Card)
     ensures { k.new ≡ splice k.old (card_start j) (card_words c) }
 {
     let at = CARDS_AT + CARD_WORDS * (j as usize);
-    write_card(&mut k[at..], c);
+    k[at..at + CARD_WORDS].copy_from_slice(&<[u32; CARD_WORDS]>::from(c));
 }
 
 // A card of the machine is kept, at place j.
@@ -69,11 +54,10 @@ fn put(k: &mut [u32], c: Card) -> Result<Answer, Refusal>
     requires { Neat k.old }
     ensures { (w : List ℕ) → offer_written w k.old (offered (read_book k.old).cards c) ≡ record { outcome = result; slice = w; cards = k.new } }
 {
-    let m = k[0];
-    let j = find_card(k, c.machine);
-    if j < m {
+    if let Some(j) = find_card(k, c.machine) {
         return renew(k, j, c);
     }
+    let m = k[0];
     if m < MOST_CARDS {
         put_card(k, m, c);
         k[0] = m + 1;
@@ -83,22 +67,16 @@ fn put(k: &mut [u32], c: Card) -> Result<Answer, Refusal>
 }
 
 // A card offered to the ring of the record: its hub is filled in. The record is only read, and a refusal changes no word of the cards.
-pub fn offer(w: &[u32], k: &mut [u32], machine: u32, revision: u32, price: u32) -> Result<Answer, Refusal>
+pub fn offer(
+    w: &[u32],
+    k: &mut [u32],
+    machine: u32,
+    revision: u32,
+    price: u32,
+) -> Result<Answer, Refusal>
     ensures { offer_call w.now k.old machine revision price ≡ record { outcome = result; slice = w.now; cards = k.new } }
 {
-    if w.len() < RECORD_WORDS {
-        return Err(Refusal::RecordShort);
-    }
-    if k.len() < BOOK_WORDS {
-        return Err(Refusal::RecordShort);
-    }
-    if !wellformed::well_formed(w) {
-        return Err(Refusal::NotWellFormed);
-    }
-    let names = names_of(w);
-    if !book_ok(w, &names, k) {
-        return Err(Refusal::NotWellFormed);
-    }
+    let names = checked_names(w, k)?;
     let hub = nearest(&names, &k[MARKS_AT..CARDS_AT], machine);
     put(
         k,

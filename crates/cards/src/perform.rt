@@ -11,8 +11,8 @@ ghost use Rattle.card_checks.specs.Ready.{Ready};
 ghost use Rattle.cards.specs.Movers.{Bound};
 
 use crate::moves::{enter, leave};
-use card_checks::{book_ok, names_of, others};
-use protocol::form::{BOOK_WORDS, CARDS_AT, MARKS_AT, RECORD_WORDS};
+use card_checks::{checked_names, others};
+use protocol::form::{CARDS_AT, MARKS_AT, RECORD_WORDS};
 use protocol::{Answer, Refusal};
 
 // A gone answer. Where it would strike off the only member, the record is put back: w₀ is the record as it came.
@@ -78,18 +78,6 @@ fn perform(
 pub fn step(w: &mut [u32], k: &mut [u32], operation: u32, x: u32, y: u32) -> Result<Answer, Refusal>
     ensures { step_cards w.old k.old operation x y ≡ record { outcome = result; slice = w.new; cards = k.new } }
 {
-    if w.len() < RECORD_WORDS {
-        return Err(Refusal::RecordShort);
-    }
-    if k.len() < BOOK_WORDS {
-        return Err(Refusal::RecordShort);
-    }
-    if !wellformed::well_formed(w) {
-        return Err(Refusal::NotWellFormed);
-    }
-    let names = names_of(w);
-    if !book_ok(w, &names, k) {
-        return Err(Refusal::NotWellFormed);
-    }
+    let names = checked_names(w, k)?;
     perform(w, k, &names, operation, x, y)
 }
