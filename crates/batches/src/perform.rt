@@ -7,7 +7,12 @@ use protocol::{Answer, Refusal};
 
 // The numbers asked at the node, an outcome of six words for each. Every slice and every number is taken; what is wrong with the call is
 // refused by its number, and a refusal changes no word. What is wrong with a question stands in its outcome, and the others are asked.
-pub fn ask(w: &mut [u32], node: u32, numbers: &[u32], outcomes: &mut [u32]) -> Result<Answer, Refusal>
+pub fn ask(
+    w: &mut [u32],
+    node: u32,
+    numbers: &[u32],
+    outcomes: &mut [u32],
+) -> Result<Answer, Refusal>
     ensures { batch_call w.old node numbers.now outcomes.old ≡ record { outcome = result; slice = w.new; output = outcomes.new } }
 {
     if w.len() < RECORD_WORDS {

@@ -9,7 +9,14 @@ use protocol::{Answer, Refusal, Tally};
 use tally::counted;
 
 // The step as the caller makes it, with its cards and its tally lent.
-pub fn step(w: &mut [u32], k: &mut [u32], operation: u32, x: u32, y: u32, t: &mut Tally) -> Result<Answer, Refusal>
+pub fn step(
+    w: &mut [u32],
+    k: &mut [u32],
+    operation: u32,
+    x: u32,
+    y: u32,
+    t: &mut Tally,
+) -> Result<Answer, Refusal>
     ensures { (step_cards w.old k.old operation x y ≡ record { outcome = result; slice = w.new; cards = k.new })
         × (t.new ≡ counted_spec t.old (step_cards w.old k.old operation x y).outcome) }
 {

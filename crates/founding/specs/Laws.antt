@@ -95,4 +95,3 @@ fresh_is ids w f l h =
 -- Question 13, of n identifiers.
 pub some_few : (n : ℕ) → (nat_le 1 n && nat_le n most_nodes) ≡ true → (1 ≤ n) × (n ≤ most_nodes)
 some_few n e = (says_and (says_le 1 n) (says_le n most_nodes)).to (true_T (nat_le 1 n && nat_le n most_nodes) e)
-
