@@ -1,4 +1,5 @@
-// The kinds of an answer, by document 01's numbers ('Answers'). specs/Names.antt has the same names, with - for _.
+// The kinds of an answer, by document 01's numbers ('Answers'). specs/Names.antt has the same names.
+// No enum of their own: an answer is one (`Answer`), and these are the words by which C reads it.
 pub const QUIET: u32 = 0;
 
 pub const FOUND: u32 = 1;

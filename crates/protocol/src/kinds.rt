@@ -1,4 +1,5 @@
 // The fourteen kinds of message, by document 01's numbers.
+// No enum: a message is six words that callers in C lend, and until the record was found well formed any of them may stand there.
 pub const LOOKUP: u32 = 1;
 
 pub const JOIN: u32 = 2;

@@ -61,7 +61,7 @@ pub enum Answer {
     Left(u32),
 }
 
-// Where a key (document 01: machine number) goes from a node: the node owns it, or sends it on.
+// Where a key (document 01: machine number) goes from a node: the node owns it, or sends it on. (No Option: None would read as no way.)
 #[derive(Clone, Copy)]
 pub enum Route {
     Own,
