@@ -7,7 +7,6 @@ use Rattle.protocol.specs.Routing.{in_ring}
 use Rattle.protocol.specs.Kinds.{note, with_state, with_lock}
 use Rattle.protocol.specs.Names.{JOIN}
 use Rattle.protocol.specs.declared.Decision.TheVariants.{Send}
-
 use Rattle.protocol.specs.declared.Answer.TheVariants.{Quiet}
 use Rattle.protocol.specs.Calls.{written}
 use mathlib.Core.Path.{◌≡◌, ◌∙◌, ap, sym}
