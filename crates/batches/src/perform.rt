@@ -2,7 +2,7 @@ ghost use Rattle.std.specs.Prelude.{◌≡◌};
 ghost use Rattle.protocol.specs.Batch.{batch_call};
 
 use crate::asks::ask_each;
-use protocol::form::{MOST_QUESTIONS, PLACE_WORDS, RECORD_WORDS};
+use protocol::form::{MOST_QUESTIONS, PLACE_WORDS};
 use protocol::{Answer, Refusal};
 
 // The numbers asked at the node, an outcome of six words for each. Every slice and every number is taken; what is wrong with the call is
@@ -15,12 +15,7 @@ pub fn ask(
 ) -> Result<Answer, Refusal>
     ensures { batch_call w.old node numbers.now outcomes.old ≡ record { outcome = result; slice = w.new; output = outcomes.new } }
 {
-    if w.len() < RECORD_WORDS {
-        return Err(Refusal::RecordShort);
-    }
-    if !wellformed::well_formed(w) {
-        return Err(Refusal::NotWellFormed);
-    }
+    wellformed::questions(w)?;
     if MOST_QUESTIONS < numbers.len() {
         return Err(Refusal::RouteLong);
     }

@@ -1,7 +1,7 @@
 // Cards change hub: a node that is marked gets the machines within its reach, a node whose mark is taken away gives them to the next.
 ghost use Rattle.std.specs.Prelude.{◌≡◌, List, map, ℕ, ◌<◌, length, set};
 ghost use Rattle.protocol.specs.Record.{most_nodes};
-ghost use Rattle.protocol.specs.Cards.{cards_in, marks_in, read_book, marked, moved, put_book};
+ghost use Rattle.protocol.specs.Cards.{marks_in, read_book, marked, moved, put_book};
 ghost use Rattle.cardlayout.specs.Marks.{Marked};
 ghost use Rattle.cardlayout.specs.Books.{Neat};
 ghost use Rattle.card_checks.specs.Ready.{Ready};
@@ -12,12 +12,13 @@ use clockwise::distance;
 use lists::pick;
 use protocol::form::{CARD_WORDS, CARDS_AT, MARKS_AT};
 
-// The m cards: each whose machine is at most `far` before the identifier gets the hub.
-fn hand_over(k: &mut [u32], m: usize, id: u32, far: u32, hub: u32)
-    requires { (Neat k.old) × (m ≡ cards_in k.old) }
+// Each card whose machine is at most `far` before the identifier gets the hub. (The slice is lent as it is, and not in a struct with Neat as its
+// invariant: that would have to hold after each word of the loop.)
+fn hand_over(k: &mut [u32], id: u32, far: u32, hub: u32)
+    requires { Neat k.old }
     ensures { k.new ≡ put_book k.old (record { marks = marks_in k.old; cards = map (handed id far hub) (read_book k.old).cards }) }
 {
-    for j in 0..m {
+    for j in 0..k[0] as usize {
         let at = CARDS_AT + CARD_WORDS * j;
         k[at + 3] = pick(distance(k[at], id) <= far, hub, k[at + 3]);
     }
@@ -28,12 +29,11 @@ pub(crate) fn enter(k: &mut [u32], names: &[u32; 64], h: u32)
     requires { (Neat k.old) × (h < most_nodes) }
     ensures { (ids : List ℕ) → Ready ids names.now k.old → h < length ids → k.new ≡ put_book k.old (moved ids (read_book k.old) (set (marks_in k.old) h 1)) }
 {
-    let m = k[0] as usize;
     let node = h as usize;
     let id = names[node];
     k[MARKS_AT + node] = 1;
     let far = reach(names, &k[MARKS_AT..CARDS_AT], node);
-    hand_over(k, m, id, far, h);
+    hand_over(k, id, far, h);
 }
 
 // The mark of node h is taken away, and its machines go to whoever is next. A node without a mark has no card.
@@ -41,7 +41,6 @@ pub(crate) fn leave(k: &mut [u32], names: &[u32; 64], h: u32)
     requires { (Neat k.old) × (h < most_nodes) }
     ensures { (ids : List ℕ) → Ready ids names.now k.old → h < length ids → (m : ℕ) → Marked (set (marks_in k.old) h 0) m → k.new ≡ put_book k.old (moved ids (read_book k.old) (set (marks_in k.old) h 0)) }
 {
-    let m = k[0] as usize;
     let node = h as usize;
     let id = names[node];
     if k[MARKS_AT + node] == 0 {
@@ -50,5 +49,5 @@ pub(crate) fn leave(k: &mut [u32], names: &[u32; 64], h: u32)
     let far = reach(names, &k[MARKS_AT..CARDS_AT], node);
     k[MARKS_AT + node] = 0;
     let next = nearest(names, &k[MARKS_AT..CARDS_AT], id);
-    hand_over(k, m, id, far, next);
+    hand_over(k, id, far, next);
 }

@@ -17,7 +17,8 @@ fn write_new(k: &mut [u32], node: usize)
     k[MARKS_AT + node] = 1;
 }
 
-// A ring founded with its card slice, whoever is to found it. Fresh asks all its questions before it writes, so a refusal changes no word of either.
+// A ring founded with its card slice, whoever is to found it. Fresh asks all its questions before it writes, so a refusal changes no word of either. (Its
+// question 1 stands here, and not in `checked_names`: it asks nothing of the words that it writes over.)
 pub fn fresh(
     w: &mut [u32],
     k: &mut [u32],

@@ -10,12 +10,10 @@ fn smallest(identifiers: &[u32]) -> usize
     ensures { result ≡ smallest_spec identifiers.now }
 {
     let mut node = 0;
-    let mut i = 1;
-    while i < identifiers.len() {
+    for i in 1..identifiers.len() {
         if identifiers[i] < identifiers[node] {
             node = i;
         }
-        i += 1;
     }
     node
 }

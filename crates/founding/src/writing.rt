@@ -14,11 +14,7 @@ pub fn clear(w: &mut [u32], n: usize)
     requires { n ≤ length w.old }
     ensures { w.new ≡ replicate n 0 ++ drop n w.old }
 {
-    let mut k = 0;
-    while k < n {
-        w[k] = 0;
-        k += 1;
-    }
+    w[..n].fill(0);
 }
 
 // Every node starts outside, the founder too: it gets its own row afterwards, so that this loop has no case.
@@ -26,12 +22,8 @@ fn put_rows(w: &mut [u32], identifiers: &[u32])
     requires { (length identifiers.now ≤ most_nodes) × (record_size ≤ length w.old) }
     ensures { w.new ≡ splice w.old (row_start 0) (flat row_words (map outside identifiers.now)) }
 {
-    let mut i = 0;
-    while i < identifiers.len() {
-        let node = i as u32;
-        let identifier = identifiers[i];
-        put_row(w, node, record::outside_row(identifier));
-        i += 1;
+    for (i, identifier) in identifiers.iter().enumerate() {
+        put_row(w, i as u32, record::outside_row(*identifier));
     }
 }
 

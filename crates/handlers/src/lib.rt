@@ -10,8 +10,7 @@ use protocol::{Decision, Message, Refusal, Row, kinds};
 pub fn handle(p: u32, h: Row, g: Row, m: Message) -> Result<Decision, Refusal>
     ensures { result ≡ handle_spec p h g m }
 {
-    let k = m.kind;
-    match k {
+    match m.kind {
         kinds::LOOKUP => routing::lookup(p, h, m),
         kinds::JOIN => joins::join(p, h, g, m),
         kinds::JOINRETRY => joins::join_retry(h, m),

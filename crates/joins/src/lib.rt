@@ -1,42 +1,44 @@
 // Kinds 2 to 7: how a node enters the ring. 'Receiver, and hub a for JOIN, as required? 10.'
 #![tactic(auto)]
 
-ghost use Rattle.std.specs.Prelude.{◌≡◌};
+ghost use Rattle.std.specs.Prelude.{◌≡◌, Ok};
 ghost use Rattle.protocol.specs.Kinds.{join_retried, join_routed, join as join_spec, join_retry, join_point, new_succ, new_succ_ack, join_done};
 
 use protocol::form::NONE;
 use protocol::{Answer, Decision, Message, Refusal, Route, Row, kinds, states};
-use routing::{note, route};
+use routing::{note, relinked, required, route, unlocked};
 
 // 'JOINRETRY to a': the newcomer is turned away, and may ask again.
-fn join_retried(h: Row, m: Message) -> Result<Decision, Refusal>
-    ensures { result ≡ join_retried h m }
+fn join_retried(h: Row, m: Message) -> Decision
+    ensures { Ok result ≡ join_retried h m }
 {
-    Ok(Decision::Send(h, note(kinds::JOINRETRY, m.to, m.a, 0), Answer::Quiet))
+    Decision::Send(h, note(kinds::JOINRETRY, m.to, m.a, 0), Answer::Quiet)
 }
 
 // 'an owner with lock 1 sends JOINRETRY to a; with lock 0 it locks, sets the flag, oldpred = pred,
 // pred = a, sends JOINPOINT (a = oldpred) to hub a and answers entered.'
-fn join_routed(h: Row, m: Message, way: Route) -> Result<Decision, Refusal>
-    ensures { result ≡ join_routed h m way }
+fn join_routed(h: Row, m: Message, way: Route) -> Decision
+    ensures { Ok result ≡ join_routed h m way }
 {
     match way {
         Route::Own => {
             if h.lock == 1 {
                 return join_retried(h, m);
             }
-            let mut admitting = h;
-            admitting.lock = 1;
-            admitting.flag = 1;
-            admitting.oldpred = h.pred;
-            admitting.pred = m.a;
-            Ok(Decision::Send(
+            let admitting = Row {
+                lock: 1,
+                flag: 1,
+                pred: m.a,
+                oldpred: h.pred,
+                ..h
+            };
+            Decision::Send(
                 admitting,
                 note(kinds::JOINPOINT, m.to, m.a, h.pred),
                 Answer::Entered(m.a),
-            ))
+            )
         }
-        Route::To(z) => Ok(Decision::Send(h, note(kinds::JOIN, m.to, z, m.a), Answer::Quiet)),
+        Route::To(z) => Decision::Send(h, note(kinds::JOIN, m.to, z, m.a), Answer::Quiet),
     }
 }
 
@@ -45,69 +47,46 @@ fn join_routed(h: Row, m: Message, way: Route) -> Result<Decision, Refusal>
 pub fn join(p: u32, h: Row, g: Row, m: Message) -> Result<Decision, Refusal>
     ensures { result ≡ join_spec p h g m }
 {
-    let newcomer = g.state;
-    match newcomer {
-        states::JOINING => {
-            let s = h.state;
-            match s {
-                states::OUTSIDE | states::JOINING => join_retried(h, m),
-                _ => join_routed(h, m, route(p, h, m.from, g.identifier)),
-            }
-        }
-        _ => Err(Refusal::NotExpected),
+    required(g.state == states::JOINING)?;
+    if matches!(h.state, states::OUTSIDE | states::JOINING) {
+        return Ok(join_retried(h, m));
     }
+    Ok(join_routed(h, m, route(p, h, m.from, g.identifier)))
 }
 
-// 3 JOINRETRY: 'state 1. State 0, lock 0. Join turned away.'
+// 3 JOINRETRY: 'state 1. State 0, lock 0. Join turned away.' Kind 9 has other states and another
+// answer, which is all that is said here, so one function for both would be no plainer.
 pub fn join_retry(h: Row, m: Message) -> Result<Decision, Refusal>
     ensures { result ≡ join_retry h m }
 {
-    let s = h.state;
-    match s {
-        states::JOINING => {
-            let mut outside = h;
-            outside.state = states::OUTSIDE;
-            outside.lock = 0;
-            Ok(Decision::Reply(outside, Answer::JoinTurnedAway(m.to)))
-        }
-        _ => Err(Refusal::NotExpected),
-    }
+    required(h.state == states::JOINING)?;
+    let outside = Row {
+        state: states::OUTSIDE,
+        lock: 0,
+        ..h
+    };
+    Ok(Decision::Reply(outside, Answer::JoinTurnedAway(m.to)))
 }
 
 // 4 JOINPOINT: 'state 1. State 2, pred = a, succ = f; NEWSUCC to a.' It stays locked till JOINDONE.
 pub fn join_point(h: Row, m: Message) -> Result<Decision, Refusal>
     ensures { result ≡ join_point h m }
 {
-    let s = h.state;
-    match s {
-        states::JOINING => {
-            let mut inside = h;
-            inside.state = states::INSIDE;
-            inside.pred = m.a;
-            inside.succ = m.from;
-            Ok(Decision::Send(inside, note(kinds::NEWSUCC, m.to, m.a, 0), Answer::Quiet))
-        }
-        _ => Err(Refusal::NotExpected),
-    }
+    required(h.state == states::JOINING)?;
+    let inside = Row {
+        state: states::INSIDE,
+        pred: m.a,
+        succ: m.from,
+        ..h
+    };
+    Ok(Decision::Send(inside, note(kinds::NEWSUCC, m.to, m.a, 0), Answer::Quiet))
 }
 
 // 5 NEWSUCC: 'state 2 or 3. NEWSUCCACK (a = f) to succ; then succ = f.' It goes to the old succ.
 pub fn new_succ(h: Row, m: Message) -> Result<Decision, Refusal>
     ensures { result ≡ new_succ h m }
 {
-    let s = h.state;
-    match s {
-        states::INSIDE | states::WANTING_TO_LEAVE => {
-            let mut relinked = h;
-            relinked.succ = m.from;
-            Ok(Decision::Send(
-                relinked,
-                note(kinds::NEWSUCCACK, m.to, h.succ, m.from),
-                Answer::Quiet,
-            ))
-        }
-        _ => Err(Refusal::NotExpected),
-    }
+    relinked(h, m.from, note(kinds::NEWSUCCACK, m.to, h.succ, m.from))
 }
 
 // 6 NEWSUCCACK: 'flag 1. Flag 0, oldpred none, lock 0; JOINDONE to a.' This is the last that
@@ -115,13 +94,13 @@ pub fn new_succ(h: Row, m: Message) -> Result<Decision, Refusal>
 pub fn new_succ_ack(h: Row, m: Message) -> Result<Decision, Refusal>
     ensures { result ≡ new_succ_ack h m }
 {
-    if h.flag != 1 {
-        return Err(Refusal::NotExpected);
-    }
-    let mut admitted = h;
-    admitted.flag = 0;
-    admitted.oldpred = NONE;
-    admitted.lock = 0;
+    required(h.flag == 1)?;
+    let admitted = Row {
+        lock: 0,
+        flag: 0,
+        oldpred: NONE,
+        ..h
+    };
     Ok(Decision::Send(admitted, note(kinds::JOINDONE, m.to, m.a, 0), Answer::Quiet))
 }
 
@@ -129,19 +108,5 @@ pub fn new_succ_ack(h: Row, m: Message) -> Result<Decision, Refusal>
 pub fn join_done(h: Row, m: Message) -> Result<Decision, Refusal>
     ensures { result ≡ join_done h m }
 {
-    let s = h.state;
-    match s {
-        states::INSIDE => {
-            if h.lock != 1 {
-                return Err(Refusal::NotExpected);
-            }
-            if h.flag != 0 {
-                return Err(Refusal::NotExpected);
-            }
-            let mut joined = h;
-            joined.lock = 0;
-            Ok(Decision::Reply(joined, Answer::Joined(m.to)))
-        }
-        _ => Err(Refusal::NotExpected),
-    }
+    unlocked(h, Answer::Joined(m.to))
 }

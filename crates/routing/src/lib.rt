@@ -5,9 +5,11 @@
 mod lookups;
 mod messages;
 mod rows;
+mod rules;
 mod ways;
 
 pub use lookups::lookup;
 pub use messages::{note, question};
 pub use rows::{in_ring, responsible};
+pub use rules::{relinked, required, unlocked};
 pub use ways::{covers, onward, route};

@@ -1,27 +1,27 @@
 // Kind 1, LOOKUP (a is the key, b the ticket).
-ghost use Rattle.std.specs.Prelude.{◌≡◌};
+ghost use Rattle.std.specs.Prelude.{◌≡◌, Ok};
 ghost use Rattle.protocol.specs.Kinds.{grown as grown_spec, lookup_routed, lookup as lookup_spec};
 
 use crate::messages::question;
+use crate::rows::in_ring;
+use crate::rules::required;
 use crate::ways::route;
-use protocol::{Answer, Decision, Message, Refusal, Route, Row, states};
+use protocol::{Answer, Decision, Message, Refusal, Route, Row};
 
-// Hops count the links used so far, so what a hub sent to itself adds nothing. At 65535 they stay.
+// Hops count the links used so far, so what a hub sent to itself adds nothing. At 65535 they stay,
+// and above it too, where no hops of a well formed record are; so `min` would not say it.
 fn grown(m: Message) -> u32
     ensures { result ≡ grown_spec m }
 {
-    if m.from == m.to {
+    if m.from == m.to || m.hops >= 65535 {
         return m.hops;
     }
-    if m.hops < 65535 {
-        return m.hops + 1;
-    }
-    m.hops
+    m.hops + 1
 }
 
 // 'Routed; the owner answers found.'
-fn lookup_routed(h: Row, m: Message, way: Route) -> Result<Decision, Refusal>
-    ensures { result ≡ lookup_routed h m way }
+fn lookup_routed(h: Row, m: Message, way: Route) -> Decision
+    ensures { Ok result ≡ lookup_routed h m way }
 {
     let hops = grown(m);
     match way {
@@ -32,9 +32,9 @@ fn lookup_routed(h: Row, m: Message, way: Route) -> Result<Decision, Refusal>
                 ticket: m.b,
                 hops,
             };
-            Ok(Decision::Reply(h, found))
+            Decision::Reply(h, found)
         }
-        Route::To(z) => Ok(Decision::Send(h, question(m.to, z, m.a, m.b, hops), Answer::Quiet)),
+        Route::To(z) => Decision::Send(h, question(m.to, z, m.a, m.b, hops), Answer::Quiet),
     }
 }
 
@@ -42,9 +42,6 @@ fn lookup_routed(h: Row, m: Message, way: Route) -> Result<Decision, Refusal>
 pub fn lookup(p: u32, h: Row, m: Message) -> Result<Decision, Refusal>
     ensures { result ≡ lookup_spec p h m }
 {
-    let s = h.state;
-    match s {
-        states::INSIDE..=states::LEAVING => lookup_routed(h, m, route(p, h, m.from, m.a)),
-        _ => Err(Refusal::NotExpected),
-    }
+    required(in_ring(h))?;
+    Ok(lookup_routed(h, m, route(p, h, m.from, m.a)))
 }

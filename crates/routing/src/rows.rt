@@ -8,20 +8,12 @@ use protocol::{Row, states};
 pub fn in_ring(h: Row) -> bool
     ensures { result ≡ in_ring h }
 {
-    let s = h.state;
-    match s {
-        states::INSIDE..=states::LEAVING => true,
-        _ => false,
-    }
+    matches!(h.state, states::INSIDE..=states::LEAVING)
 }
 
 // 'state 2 or 3': in the ring and not leaving yet.
 pub fn responsible(h: Row) -> bool
     ensures { result ≡ responsible_spec h }
 {
-    let s = h.state;
-    match s {
-        states::INSIDE | states::WANTING_TO_LEAVE => true,
-        _ => false,
-    }
+    matches!(h.state, states::INSIDE | states::WANTING_TO_LEAVE)
 }

@@ -17,16 +17,10 @@ pub fn covers(p: u32, h: Row, v: u32) -> bool
 pub fn onward(p: u32, h: Row, v: u32) -> Route
     ensures { result ≡ onward_spec p h v }
 {
-    let s = h.state;
-    match s {
-        states::LEAVING => Route::To(h.succ),
-        _ => {
-            if covers(p, h, v) {
-                return Route::Own;
-            }
-            Route::To(h.succ)
-        }
+    if h.state != states::LEAVING && covers(p, h, v) {
+        return Route::Own;
     }
+    Route::To(h.succ)
 }
 
 // 'if the flag is set and the sender is oldpred, send on to pred. Else ..' Only oldpred still takes t
@@ -34,11 +28,8 @@ pub fn onward(p: u32, h: Row, v: u32) -> Route
 pub fn route(p: u32, h: Row, f: u32, v: u32) -> Route
     ensures { result ≡ route_spec p h f v }
 {
-    if h.flag != 1 {
-        return onward(p, h, v);
+    if h.flag == 1 && f == h.oldpred {
+        return Route::To(h.pred);
     }
-    if f != h.oldpred {
-        return onward(p, h, v);
-    }
-    Route::To(h.pred)
+    onward(p, h, v)
 }

@@ -6,7 +6,6 @@ ghost use Rattle.layout.specs.Form.{Valid};
 
 use crate::asks::ask;
 use crate::commands::{deliver, join, leave};
-use protocol::form::RECORD_WORDS;
 use protocol::{Answer, Refusal};
 
 // 'operation 0 to 3? 3.' On a record that has passed questions 1 and 2. (A match and no table of functions: the numbers are the document's, and
@@ -29,11 +28,6 @@ pub fn run(w: &mut [u32], operation: u32, x: u32, y: u32) -> Result<Answer, Refu
 pub fn step(w: &mut [u32], operation: u32, x: u32, y: u32) -> Result<Answer, Refusal>
     ensures { step_call w.old operation x y ≡ record { outcome = result; slice = w.new } }
 {
-    if w.len() < RECORD_WORDS {
-        return Err(Refusal::RecordShort);
-    }
-    if !wellformed::well_formed(w) {
-        return Err(Refusal::NotWellFormed);
-    }
+    wellformed::questions(w)?;
     run(w, operation, x, y)
 }

@@ -1,21 +1,7 @@
--- `join_done`: at each return the tests on the way decide the definition. Assumes nothing.
-use borrow.Author.Tests.{eq-eqb, ne_eqb}
-use Rattle.lists.specs.Basics.{when◌then◌else◌}
+-- `join_done`: the definition is what `unlocked` promises. Assumes nothing.
 use Rattle.protocol.specs.Kinds.{join_done}
 use Rattle.joins.proofs.join_done.Goals as goal
 
-pub returns-then-h-ne1 : goal.returns-then-h-ne1
-unfolding join_done when◌then◌else◌
-returns-then-h-ne1 c = simp (ne_eqb _ _ c.if-h-ne1.true, c.in-2.is)
-
-pub returns-then-h-ne0 : goal.returns-then-h-ne0
-unfolding join_done when◌then◌else◌
-returns-then-h-ne0 c = simp (ne_eqb _ _ c.if-h-ne0.true, eq-eqb _ _ c.if-h-ne1.false, c.in-2.is)
-
-pub returns-else-h-ne0 : goal.returns-else-h-ne0
-unfolding join_done when◌then◌else◌
-returns-else-h-ne0 c = simp (eq-eqb _ _ c.if-h-ne0.false, eq-eqb _ _ c.if-h-ne1.false, c.in-2.is)
-
-pub returns-in_default : goal.returns-in_default
-unfolding join_done when◌then◌else◌
-returns-in_default c = simp (ne_eqb _ _ c.in_default.in_default-own.rest.1)
+pub returns : goal.returns
+unfolding join_done
+returns c = c.unlocked.ensures

@@ -1,13 +1,13 @@
 -- `join_retry`: at each return the tests on the way decide the definition. Assumes nothing.
-use borrow.Author.Tests.{ne_eqb}
+use native.Mathlib.Omega.{arith}
 use Rattle.lists.specs.Basics.{when◌then◌else◌}
 use Rattle.protocol.specs.Kinds.{join_retry}
 use Rattle.joins.proofs.join_retry.Goals as goal
 
-pub returns-in-1 : goal.returns-in-1
+pub returns-in_err-required : goal.returns-in_err-required
 unfolding join_retry when◌then◌else◌
-returns-in-1 c = simp c.in-1.is
+returns-in_err-required c = grind arith
 
-pub returns-in_default : goal.returns-in_default
+pub returns : goal.returns
 unfolding join_retry when◌then◌else◌
-returns-in_default c = simp (ne_eqb _ _ c.in_default.in_default-own.rest.1)
+returns c = grind arith

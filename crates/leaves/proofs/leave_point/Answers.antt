@@ -1,17 +1,13 @@
 -- `leave_point`: at each return the tests on the way decide the definition. Assumes nothing.
-use borrow.Author.Tests.{eq-eqb, ne_eqb}
+use native.Mathlib.Omega.{arith}
 use Rattle.lists.specs.Basics.{when◌then◌else◌}
 use Rattle.protocol.specs.Kinds.{leave_point}
 use Rattle.leaves.proofs.leave_point.Goals as goal
 
-pub returns-then-h-ne1 : goal.returns-then-h-ne1
+pub returns-in_err-required : goal.returns-in_err-required
 unfolding leave_point when◌then◌else◌
-returns-then-h-ne1 c = simp (ne_eqb _ _ c.if-h-ne1.true, c.in-2.is)
+returns-in_err-required c = grind arith
 
-pub returns-else-h-ne1 : goal.returns-else-h-ne1
+pub returns : goal.returns
 unfolding leave_point when◌then◌else◌
-returns-else-h-ne1 c = simp (c.note.ensures, eq-eqb _ _ c.if-h-ne1.false, c.in-2.is)
-
-pub returns-in_default : goal.returns-in_default
-unfolding leave_point when◌then◌else◌
-returns-in_default c = simp (ne_eqb _ _ c.in_default.in_default-own.rest.1)
+returns c = grind arith

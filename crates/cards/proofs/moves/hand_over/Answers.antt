@@ -15,15 +15,15 @@ use Rattle.cards.proofs.moves.hand_over.Goals as goal
 
 pub loop-j-init : goal.loop-j-init
 unfolding put_book
-loop-j-init c = let k = c.args.k.now in (refl, sym (book_read k c.requires.0))
+loop-j-init c = let k = c.args.k.now in (refl, sym (book_read k c.requires))
 
 pub loop-j-preserved : goal.loop-j-preserved
 unfolding put_book
 loop-j-preserved c = let a = c.args in
     let k = a.k.now in
     let l = c.loop-j in
-    let f = read_fits k c.requires.0 in
-    let u : l.j < length (read_book k).cards = omega (arith, count_of_book k, c.requires.1) in
+    let f = read_fits k c.requires in
+    let u : l.j < length (read_book k).cards = omega (arith, count_of_book k) in
     let t = drop book_size k in
     let p : Card → ℕ = λ z. when nat_le (dist round z.machine a.id) a.far then a.hub else z.hub in
     let e : c.pick.result ≡ p (get_or (read_book k).cards l.j Rattle.protocol.specs.Cards.no_card) =
@@ -35,5 +35,5 @@ pub returns : goal.returns
 unfolding read_book
 returns c = let k = c.args.k.now in
     let l = c.loop-j in
-    let e : l.j ≡ length (read_book k).cards = omega (arith, count_of_book k, c.requires.1) in
+    let e : l.j ≡ length (read_book k).cards = omega (arith, count_of_book k) in
     l.invariant.1 ∙ ap (λ z. put_book k (handed_book c.args.id c.args.far c.args.hub (read_book k) z)) e ∙ ap (put_book k) (handed_all c.args.id c.args.far c.args.hub (read_book k))

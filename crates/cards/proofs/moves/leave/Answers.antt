@@ -1,8 +1,8 @@
 -- `leave`: a mark taken away, and what goes with it. Assumes nothing.
-use mathlib.Core.Path.{refl, sym, ◌∙◌}
+use mathlib.Core.Path.{refl, ◌∙◌}
 use native.Mathlib.Omega.{arith}
 use lib.ListN.{length-set}
-use Rattle.cards.specs.Follow.{marked_neat, marked_count, stay_law, leave_law}
+use Rattle.cards.specs.Follow.{marked_neat, stay_law, leave_law}
 use Rattle.cards.proofs.moves.leave.Goals as goal
 
 pub returns-then-k-node-eq0 : goal.returns-then-k-node-eq0
@@ -10,7 +10,7 @@ returns-then-k-node-eq0 c = let a = c.args in
     λ ids r l m i. stay_law ids a.names.now a.k.now r a.h l c.if-k-node-eq0.true
 
 pub hand_over-requires : goal.hand_over-requires
-hand_over-requires c = (marked_neat c.args.k.now c.requires.0 c.args.h 0 c.requires.1, sym (marked_count c.args.k.now c.requires.0 c.args.h 0 c.requires.1))
+hand_over-requires c = marked_neat c.args.k.now c.requires.0 c.args.h 0 c.requires.1
 
 pub shape_of-k : goal.shape_of-k
 shape_of-k c = c.hand_over.auto.k ∙ simp length-set refl

@@ -6,6 +6,3 @@ use Rattle.founding.proofs.founder.smallest.Given as goal
 
 abbrev pub invariant-loop-i : goal.invariant-loop-i
 invariant-loop-i l = (l.i ≤ 1 + (length l.identifiers - 1)) × Least l.identifiers l.i l.node
-
-abbrev pub decreases-loop-i : goal.decreases-loop-i
-decreases-loop-i l = length l.identifiers - l.i

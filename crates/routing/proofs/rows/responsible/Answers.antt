@@ -1,16 +1,16 @@
 -- `responsible`: at each return the tests on the way decide the definition. Assumes nothing.
-use borrow.Author.Tests.{lt-ltb, lt-leb, le-leb, le-ltb}
+use native.Mathlib.Omega.{arith}
 use Rattle.protocol.specs.Routing.{responsible}
 use Rattle.routing.proofs.rows.responsible.Goals as goal
 
 pub returns-in-2 : goal.returns-in-2
 unfolding responsible
-returns-in-2 c = simp (lt-ltb _ _ c.in-2.if-s-lt4-own.true, le-leb _ _ c.in-2.if-s-lt2-own.false)
+returns-in-2 c = grind arith
 
 pub returns-in_default : goal.returns-in_default
 unfolding responsible
-returns-in_default c = simp (lt-leb _ _ c.in_default.if-s-lt2-own.true)
+returns-in_default c = grind arith
 
 pub returns-in_default-2 : goal.returns-in_default-2
 unfolding responsible
-returns-in_default-2 c = simp (le-ltb _ _ c.in_default.if-s-lt4-own.false, le-leb _ _ c.in_default.if-s-lt2-own.false)
+returns-in_default-2 c = grind arith
