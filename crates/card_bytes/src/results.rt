@@ -1,4 +1,5 @@
-// What a call with cards hands back: the refusal and nothing written, or the words.
+// What a call with cards hands back: the refusal and nothing written, or the words. (A function for each: they write into
+// other slices.)
 ghost use Rattle.std.specs.Prelude.{◌≡◌, List, ℕ, ◌*◌, ◌≤◌, length};
 ghost use Rattle.protocol.specs.Answers.{refusal};
 ghost use Rattle.protocol.specs.CardBytes.{carried_cards, taken, founded_cards};

@@ -26,7 +26,7 @@ pub(crate) fn marks_ok(k: &[u32], n: u32) -> bool
     all_bits(marks) & !all_zero(marks) & all_zero(&k[end..CARDS_AT])
 }
 
-// 0 where no node but h is marked.
+// 0 where no node but h is marked. (The words are merged, as where they are looked over for zeros; the one caller looks at what was merged.)
 pub fn others(marks: &[u32], h: usize) -> u32
     ensures { result ≡ merged (length marks.now) (λ i. when not (nat_eq i h) then get_or marks.now i 0 else 0) }
 {

@@ -12,7 +12,7 @@ use protocol::form::{ROW_WORDS, ROWS_AT};
 // The place of pred in a row.
 const PRED_AT: usize = 4;
 
-// What a node adds to the circle: its numbers, if it is a member.
+// What a node adds to the circle: its numbers, if it is a member. (The round is 2^32, which no word holds; so `when` of lists does not serve.)
 fn arc(member: bool, far: u32) -> u64
     ensures { (result ≡ (when member then far + 1 else 0)) × (result ≤ 4294967296) }
 {

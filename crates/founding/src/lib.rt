@@ -10,7 +10,6 @@ ghost use Rattle.protocol.specs.Fresh.{founder_of};
 
 use crate::writing::write_fresh;
 pub use founder::founding_node;
-use lists::both;
 use protocol::form::RECORD_WORDS;
 use protocol::{Answer, Refusal};
 use wellformed::all_differ;
@@ -24,7 +23,8 @@ pub fn fresh(w: &mut [u32], identifiers: &[u32], founder: Option<u32>) -> Result
     if w.len() < RECORD_WORDS {
         return Err(Refusal::RecordShort);
     }
-    if !both(1 <= identifiers.len(), identifiers.len() <= 64) {
+    let few = (1 <= identifiers.len()) & (identifiers.len() <= 64);
+    if !few {
         return Err(Refusal::IdentifierCount);
     }
     if !all_differ(identifiers) {

@@ -1,4 +1,5 @@
-// A match over the kinds 1 to 14 picks the handler. (No other kind is well formed.)
+// A match over the kinds 1 to 14 picks the handler. (No other kind is well formed.) No table of functions: the numbers are the document's, and a
+// JOIN looks at one row more than the others.
 #![tactic(auto)]
 
 ghost use Rattle.std.specs.Prelude.{◌≡◌};

@@ -1,27 +1,9 @@
-// Tests put together without a branch at the caller, so that loops over them have none either. (The laws of tests, lists and
-// counting that the crates above cite are in specs/.)
+// Choices by a test without a branch at the caller, so that loops over them have none. (The laws of tests, lists and counting that the crates
+// above cite are in specs/.)
 #![tactic(auto)]
 
-ghost use Rattle.std.specs.Prelude.{◌≡◌, ◌&&◌, ◌||◌, not};
+ghost use Rattle.std.specs.Prelude.{◌≡◌};
 ghost use Rattle.lists.specs.Basics.{when◌then◌else◌};
-
-pub fn both(a: bool, b: bool) -> bool
-    ensures { result ≡ (a && b) }
-{
-    if a {
-        return b;
-    }
-    false
-}
-
-pub fn either(a: bool, b: bool) -> bool
-    ensures { result ≡ (a || b) }
-{
-    if a {
-        return true;
-    }
-    b
-}
 
 // One of two values, without a branch at the caller. (An `if` over the tests of a row, in its place, keeps the loop over rows from being vectorised:
 // half as many instructions more.)

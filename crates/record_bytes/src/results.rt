@@ -1,4 +1,5 @@
-// What a call hands back: the refusal and nothing written, or the words.
+// What a call hands back: the refusal and nothing written, or the words. (A function for each: they write into other slices, and what they share is
+// `?` and `save`.)
 ghost use Rattle.std.specs.Prelude.{◌≡◌, ◌*◌, ◌≤◌, length};
 ghost use Rattle.protocol.specs.Answers.{refusal};
 ghost use Rattle.protocol.specs.Bytes.{carried, told, fresh_carried};

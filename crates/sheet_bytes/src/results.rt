@@ -14,6 +14,7 @@ pub(crate) fn finish_sheet(counts: &mut [u8], r: Result<Counts, Refusal>) -> Res
     ensures counts { counts.new ≡ counts_after counts.old r }
 {
     let Counts { rows, bytes } = r?;
+    // Two words each, as the definition has them.
     let words = [
         (rows % 4294967296) as u32,
         (rows / 4294967296) as u32,

@@ -1,4 +1,5 @@
-// Where the identifiers of a sheet go: words, or bytes, four a word, lowest first, for callers in C.
+// Where the identifiers of a sheet go: words, or bytes, four a word, lowest first, for callers in C. (The writer has a trait of its own for where
+// they come from: one puts, the other gives, and no member would be shared.)
 ghost use Rattle.std.specs.Prelude.{◌≡◌, List, [], ◌∷◌, ℕ, ◌+◌, ◌*◌, ◌≤◌, ◌<◌, length};
 ghost use Rattle.lists.specs.Splice.{splice};
 ghost use Rattle.protocol.specs.Bytes.{bytes_of};

@@ -12,17 +12,16 @@ pub returns-then-w-lt-RECORD_WORDS : goal.returns-then-w-lt-RECORD_WORDS
 unfolding fresh_by_call long require when◌then◌else◌
 returns-then-w-lt-RECORD_WORDS c = simp (lt-leb _ _ c.if-w-lt-RECORD_WORDS.true)
 
-pub returns-then-not-both : goal.returns-then-not-both
+pub returns-then-not-few : goal.returns-then-not-few
 unfolding fresh_by_call long require when◌then◌else◌
-returns-then-not-both c = simp (le-leb _ _ c.if-w-lt-RECORD_WORDS.false, ← c.both.ensures, c.if-not-both.true)
+returns-then-not-few c = simp (le-leb _ _ c.if-w-lt-RECORD_WORDS.false, c.if-not-few.true)
 
 pub returns-then-not-all_differ : goal.returns-then-not-all_differ
 unfolding fresh_by_call long require when◌then◌else◌
 returns-then-not-all_differ c =
     simp (
       le-leb _ _ c.if-w-lt-RECORD_WORDS.false,
-      ← c.both.ensures,
-      c.if-not-both.false,
+      c.if-not-few.false,
       ← c.all_differ.ensures,
       c.if-not-all_differ.true,
     )
@@ -32,8 +31,7 @@ unfolding fresh_by_call long require when◌then◌else◌
 returns-then-identifiers-node c =
     simp (
       le-leb _ _ c.if-w-lt-RECORD_WORDS.false,
-      ← c.both.ensures,
-      c.if-not-both.false,
+      c.if-not-few.false,
       ← c.all_differ.ensures,
       c.if-not-all_differ.false,
       ← c.founding_node-node.ensures,
@@ -42,7 +40,7 @@ returns-then-identifiers-node c =
 
 pub write_fresh-requires : goal.write_fresh-requires
 write_fresh-requires c =
-    let k = some_few (length c.args.identifiers.now) (sym c.both.ensures ∙ c.if-not-both.false) in
+    let k = some_few (length c.args.identifiers.now) c.if-not-few.false in
     (c.if-identifiers-node.false, k.1, omega arith)
 
 pub returns : goal.returns
@@ -50,8 +48,7 @@ unfolding fresh_by_call long written require when◌then◌else◌
 returns c =
     simp (
       le-leb _ _ c.if-w-lt-RECORD_WORDS.false,
-      ← c.both.ensures,
-      c.if-not-both.false,
+      c.if-not-few.false,
       ← c.all_differ.ensures,
       c.if-not-all_differ.false,
       ← c.founding_node-node.ensures,
