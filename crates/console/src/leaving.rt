@@ -1,4 +1,6 @@
 // Bytes to standard output.
+ghost use Rattle.std.specs.Prelude.{◌≤◌, length};
+
 use crate::Console;
 use crate::retries::may_retry;
 use std::io::Print;
@@ -6,7 +8,9 @@ use std::io::Print;
 impl Console<'_> {
     // Writes what it can, and answers what is left: something where a write fails, which is told, or takes nothing. Its turns are as those of
     // `receive`.
-    fn write_on<'a>(&self, text: &'a [u8]) -> &'a [u8] {
+    fn write_on<'a>(&self, text: &'a [u8]) -> &'a [u8]
+        ensures { length result.now ≤ length text.now }
+    {
         let mut left = text;
         for _ in 0..u64::MAX {
             if left.is_empty() {

@@ -43,7 +43,8 @@ impl Run {
                 );
             }
             Arrival::End => {
-                self.waiting = finish(&mut self.record, &mut self.line, &mut self.out);
+                self.waiting = finish(&mut self.record, self.line.as_slice(), &mut self.out);
+                self.line.clear();
             }
             Arrival::Failed => self.waiting = 0,
         }

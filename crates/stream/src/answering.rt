@@ -1,21 +1,16 @@
 // The answer to a line, put behind those that wait to be written.
-ghost use Rattle.std.specs.Prelude.{◌≡◌, ◌+◌, ◌≤◌, length, take, drop};
+ghost use Rattle.std.specs.Prelude.{◌≡◌, [], ◌+◌, ◌≤◌, length, take, drop};
 ghost use Rattle.protocol.specs.Ringrun.{line_ended};
 
-use console::Begun;
 use frames::answer_line;
 
-// What is kept of a line: one byte more than a frame can have.
-pub const KEPT: usize = 515;
-
-// Answers a line, and begins a new one. The first `waiting` bytes of the block wait to be written; how many do now is returned. An answer has
+// Answers a line. The first `waiting` bytes of the block wait to be written; how many do now is returned. An answer has
 // at most 25 bytes.
-pub fn answer(w: &mut [u32], line: &mut Begun<KEPT>, out: &mut [u8], waiting: usize) -> usize
+pub fn answer(w: &mut [u32], line: &[u8], out: &mut [u8], waiting: usize) -> usize
     requires { waiting + 25 ≤ length out.old }
-    ensures { (line_ended (record { slice = w.old; begun = line.old; printed = take waiting out.old }) ≡ record { slice = w.new; begun = line.new; printed = take result out.new }) × (waiting ≤ result) × (result ≤ waiting + 25) × (drop result out.new ≡ drop result out.old) }
+    ensures { (line_ended (record { slice = w.old; begun = line.now; printed = take waiting out.old }) ≡ record { slice = w.new; begun = []; printed = take result out.new }) × (waiting ≤ result) × (result ≤ waiting + 25) × (drop result out.new ≡ drop result out.old) }
 {
-    let printed = answer_line(w, line.as_slice());
-    line.clear();
+    let printed = answer_line(w, line);
     let text = printed.as_slice();
     let end = waiting + text.len();
     out[waiting..end].copy_from_slice(text);

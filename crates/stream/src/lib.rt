@@ -4,5 +4,4 @@
 mod answering;
 mod taking;
 
-pub use answering::KEPT;
-pub use taking::{finish, take_bytes};
+pub use taking::{KEPT, finish, take_bytes};

@@ -3,8 +3,11 @@ ghost use Rattle.std.specs.Prelude.{◌≡◌, [], ◌*◌, ◌≤◌, length, t
 ghost use Rattle.protocol.specs.Ringrun.{ended};
 ghost use Rattle.stream.specs.Pieces.{taken};
 
-use crate::answering::{KEPT, answer};
+use crate::answering::answer;
 use console::Begun;
+
+// What is kept of a line: one byte more than a frame can have.
+pub const KEPT: usize = 515;
 
 // The bytes of one read: every line that ends in them is answered, and the answers stand at the front of the block. How many bytes wait there is
 // returned. Each byte can end a line, and an answer has at most 25 bytes.
@@ -15,19 +18,19 @@ pub fn take_bytes(w: &mut [u32], line: &mut Begun<KEPT>, out: &mut [u8], input: 
     let mut waiting = 0;
     let mut left = input;
     while let Some(rest) = line.gather(left) {
-        waiting = answer(w, line, out, waiting);
+        waiting = answer(w, line.as_slice(), out, waiting);
+        line.clear();
         left = rest;
     }
     waiting
 }
 
 // The end of the input. The last line may lack its LF; where the input ends with LF, or is empty, there is none.
-pub fn finish(w: &mut [u32], line: &mut Begun<KEPT>, out: &mut [u8]) -> usize
+pub fn finish(w: &mut [u32], line: &[u8], out: &mut [u8]) -> usize
     requires { 25 ≤ length out.old }
-    ensures { (ended (record { slice = w.old; begun = line.old; printed = [] }) ≡ record { slice = w.new; begun = line.new; printed = take result out.new }) × (result ≤ length out.old) × (drop result out.new ≡ drop result out.old) }
+    ensures { (ended (record { slice = w.old; begun = line.now; printed = [] }) ≡ record { slice = w.new; begun = []; printed = take result out.new }) × (result ≤ length out.old) × (drop result out.new ≡ drop result out.old) }
 {
-    let held = line.as_slice().len();
-    if held == 0 {
+    if line.len() == 0 {
         return 0;
     }
     answer(w, line, out, 0)

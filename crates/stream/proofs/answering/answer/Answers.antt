@@ -12,13 +12,12 @@ returns c =
     let p = c.answer_line-printed in
     let t = c.as_slice-text.ensures in
     let n = length p.result in
-    let called = rw c.as_slice.ensures at p.ensures in
     let room : a.waiting ≤ length a.out.now = omega arith in
     let e : a.waiting + n - a.waiting ≡ n = omega arith in
     let few : n ≤ 25 = rw t.bytes at t.few in
-    rw (c.copy_from_slice.ensures.after, t.bytes, e, c.clear.ensures) (
-      answered a.w.now a.line.now p.new.w a.out.now p.result a.waiting n called room refl,
+    rw (c.copy_from_slice.ensures.after, t.bytes, e) (
+      answered a.w.now a.line.now p.new.w a.out.now p.result a.waiting n p.ensures room refl,
       omega arith,
       omega arith,
-      rest_kept a.w.now a.line.now p.new.w a.out.now p.result a.waiting n called room refl,
+      rest_kept a.w.now a.line.now p.new.w a.out.now p.result a.waiting n p.ensures room refl,
     )
