@@ -3,4 +3,4 @@ use Rattle.std.proofs.Common.{◌≤◌, length}
 use Rattle.console.proofs.Console.write_on.Given as goal
 
 abbrev pub invariant-loop : goal.invariant-loop
-invariant-loop l = length l.left.now ≤ length l.text
+invariant-loop l = length l.left ≤ length l.text

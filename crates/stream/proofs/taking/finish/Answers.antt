@@ -1,11 +1,14 @@
 -- `finish`: the line that has begun, if one has, is the last. Assumes nothing.
-use native.Mathlib.Omega.{arith}
-use mathlib.Core.Path.{refl}
+use Rattle.std.proofs.Common.{refl, ◌∙◌, ap, [], arith}
+use Rattle.std.proofs.lemmas.List.{nil_from_length}
 use Rattle.stream.specs.Laws.{nothing_begun, last_line}
 use Rattle.stream.proofs.taking.finish.Goals as goal
 
 pub returns-then-line-eq0 : goal.returns-then-line-eq0
-returns-then-line-eq0 c = (nothing_begun c.args.w.now c.args.line.now c.if-line-eq0.true, omega arith, refl)
+returns-then-line-eq0 c =
+    let a = c.args in
+    let none = nil_from_length a.line.now c.if-line-eq0.true in
+    (nothing_begun a.w.now a.line.now c.if-line-eq0.true ∙ ap (λ l. record { slice = a.w.now; begun = l; printed = [] }) none, omega arith, refl)
 
 pub returns : goal.returns
 returns c =
