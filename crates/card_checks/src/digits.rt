@@ -41,6 +41,8 @@ struct Groups {
 }
 
 impl Groups {
+    // Not inlined: its arrays are not to lie on the stack beside a pass's slots (include/ring.h says how much a call needs).
+    #[inline(never)]
     fn of(cards: &Cards) -> Groups
         ensures { (result.count ≡ cards.now.count) × ((j : ℕ) → j < result.count → get_or result.names j 0 ≡ machine_of cards.now.words.now j % 512) × ((j : ℕ) → j < result.count → get_or result.rest j 0 ≡ machine_of cards.now.words.now j / 512) }
     {
