@@ -117,7 +117,7 @@ mod tests {
             let file = folder.expect("a crate").path().join("src/buckets.rt");
             fs::read_to_string(file).unwrap_or_default()
         });
-        let place = "(wide(machine) * 2654435769 / 4194304 % 1024) as usize";
+        let place = "(u64::from(machine) * 2654435769 / 4194304 % 1024) as usize";
         let most = "const MOST_STEPS: usize = 4;";
         assert!(texts.any(|text| text.contains(place) && text.contains(most)));
     }
