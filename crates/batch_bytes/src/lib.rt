@@ -8,7 +8,7 @@ ghost use Rattle.protocol.specs.Batch.{batch_bytes};
 
 use protocol::Refusal;
 use protocol::form::{MOST_QUESTIONS, PLACE_WORDS, RECORD_BYTES, RECORD_WORDS};
-use word_bytes::{load, loaded, save};
+use word_bytes::{Words, loaded, save};
 
 // Four bytes a word.
 const PLACE_BYTES: usize = 24;
@@ -23,23 +23,15 @@ pub fn ask(words: &mut [u8], node: u32, numbers: &[u8], outcomes: &mut [u8]) -> 
         return Err(Refusal::RecordShort);
     }
     let mut w = loaded::<RECORD_WORDS>(&words[..]);
-    if !wellformed::well_formed(&w) {
-        return Err(Refusal::NotWellFormed);
-    }
-    let n = numbers.len() / 4;
-    if MOST_QUESTIONS < n {
-        return Err(Refusal::RouteLong);
-    }
-    if outcomes.len() / PLACE_BYTES < n {
+    wellformed::questions(&w)?;
+    let asked = Words::<MOST_QUESTIONS>::of(numbers).ok_or(Refusal::RouteLong)?;
+    let numbers = asked.as_slice();
+    if outcomes.len() / PLACE_BYTES < numbers.len() {
         return Err(Refusal::PlacesShort);
     }
-    let mut room = [0u32; MOST_QUESTIONS];
-    let asked = &mut room[..n];
-    load(numbers, asked);
     let mut places = [0u32; PLACES_WORDS];
-    batches::ask_each(&mut w, node, asked, &mut places);
+    batches::ask_each(&mut w, node, numbers, &mut places);
     save(words, &w);
-    let end = PLACE_WORDS * n;
-    save(outcomes, &places[..end]);
+    save(outcomes, &places[..PLACE_WORDS * numbers.len()]);
     Ok(())
 }

@@ -17,7 +17,6 @@ pub fn ask(
         × (t.new ≡ counted_all t.old (batch_outcomes w.old node numbers.now outcomes.old)) }
 {
     let answer = batches::ask(w, node, numbers, outcomes)?;
-    let before = *t;
-    *t = count_each(before, outcomes, numbers.len());
+    *t = count_each(*t, outcomes, numbers.len());
     Ok(answer)
 }

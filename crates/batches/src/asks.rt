@@ -5,8 +5,7 @@ ghost use Rattle.protocol.specs.Batch.{ask_each, place_size, place_words as plac
 ghost use Rattle.layout.specs.Form.{Valid};
 ghost use Rattle.batches.specs.Each.{turn};
 
-use answers::answer_words;
-use protocol::form::PLACE_WORDS;
+use protocol::form::{ANSWER_WORDS, PLACE_WORDS};
 use protocol::{Answer, Refusal};
 
 // By which number the question was refused, or 0 and its answer. A refusal has no answer: no old word may be taken for one.
@@ -16,7 +15,7 @@ fn place_words(o: Result<Answer, Refusal>) -> [u32; PLACE_WORDS]
     match o {
         Err(k) => [u32::from(k), 0, 0, 0, 0, 0],
         Ok(a) => {
-            let [kind, hub, number, ticket, hops] = answer_words(a);
+            let [kind, hub, number, ticket, hops] = <[u32; ANSWER_WORDS]>::from(a);
             [0, kind, hub, number, ticket, hops]
         }
     }

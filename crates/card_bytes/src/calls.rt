@@ -5,10 +5,9 @@ ghost use Rattle.protocol.specs.Bytes.{words_of};
 ghost use Rattle.protocol.specs.Answers.{refusal};
 ghost use Rattle.protocol.specs.CardBytes.{step_cards_bytes, offer_bytes, fresh_by_cards_bytes};
 
-use crate::results::{finish_fresh, finish_offer, finish_step};
 use protocol::Refusal;
-use protocol::form::{BOOK_BYTES, BOOK_WORDS, RECORD_BYTES, RECORD_WORDS};
-use word_bytes::{load, loaded};
+use protocol::form::{ANSWER_WORDS, BOOK_BYTES, BOOK_WORDS, RECORD_BYTES, RECORD_WORDS};
+use word_bytes::{Words, loaded, save};
 
 // One command on the record in the lent bytes, with the cards in others. Only the first words of both are loaded: a step looks at nothing behind them.
 pub fn step(
@@ -32,8 +31,11 @@ pub fn step(
     }
     let mut w = loaded::<RECORD_WORDS>(&words[..]);
     let mut k = loaded::<BOOK_WORDS>(&book[..]);
-    let r = cards::step(&mut w, &mut k, operation, x, y);
-    finish_step(words, book, out, &w, &k, r)
+    let a = cards::step(&mut w, &mut k, operation, x, y)?;
+    save(words, &w);
+    save(book, &k);
+    save(out, &<[u32; ANSWER_WORDS]>::from(a));
+    Ok(())
 }
 
 // A card offered to the ring in the lent bytes, which are only read.
@@ -54,8 +56,9 @@ pub fn offer(
     }
     let w = loaded::<RECORD_WORDS>(words);
     let mut k = loaded::<BOOK_WORDS>(&book[..]);
-    let r = card_offers::offer(&w, &mut k, machine, revision, price);
-    finish_offer(book, &k, r)
+    card_offers::offer(&w, &mut k, machine, revision, price)?;
+    save(book, &k);
+    Ok(())
 }
 
 // A ring founded in the lent bytes with its card slice, whoever is to found it. Neither is loaded, since an accepted call writes both whole.
@@ -73,15 +76,11 @@ pub fn fresh(
     if book.len() < BOOK_BYTES {
         return Err(Refusal::RecordShort);
     }
-    let n = identifiers.len() / 4;
-    if 64 < n {
-        return Err(Refusal::IdentifierCount);
-    }
-    let mut room = [0u32; 64];
-    let ids = &mut room[..n];
-    load(identifiers, ids);
+    let ids = Words::<64>::of(identifiers).ok_or(Refusal::IdentifierCount)?;
     let mut w = [0u32; RECORD_WORDS];
     let mut k = [0u32; BOOK_WORDS];
-    let r = cards::fresh(&mut w, &mut k, ids, founder);
-    finish_fresh(words, book, &w, &k, r)
+    cards::fresh(&mut w, &mut k, ids.as_slice(), founder)?;
+    save(words, &w);
+    save(book, &k);
+    Ok(())
 }

@@ -3,6 +3,5 @@
 #![tactic(auto)]
 
 mod calls;
-mod results;
 
 pub use calls::{fresh, offer, step};

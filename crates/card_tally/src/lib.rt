@@ -21,7 +21,6 @@ pub fn step(
         × (t.new ≡ counted_spec t.old (step_cards w.old k.old operation x y).outcome) }
 {
     let r = cards::step(w, k, operation, x, y);
-    let before = *t;
-    *t = counted(before, r);
+    *t = counted(*t, r);
     r
 }

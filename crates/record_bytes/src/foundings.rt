@@ -4,10 +4,9 @@ ghost use Rattle.protocol.specs.Answers.{refusal};
 ghost use Rattle.protocol.specs.Bytes.{words_of, fresh_by_bytes};
 ghost use Rattle.protocol.specs.Fresh.{founder_of};
 
-use crate::results::finish_fresh;
 use protocol::Refusal;
 use protocol::form::{RECORD_BYTES, RECORD_WORDS};
-use word_bytes::load;
+use word_bytes::{Words, save};
 
 // The lent bytes are not loaded, since an accepted call writes the whole record.
 pub fn fresh(words: &mut [u8], identifiers: &[u8], founder: Option<u32>) -> Result<(), Refusal>
@@ -16,14 +15,9 @@ pub fn fresh(words: &mut [u8], identifiers: &[u8], founder: Option<u32>) -> Resu
     if words.len() < RECORD_BYTES {
         return Err(Refusal::RecordShort);
     }
-    let n = identifiers.len() / 4;
-    if 64 < n {
-        return Err(Refusal::IdentifierCount);
-    }
-    let mut room = [0u32; 64];
-    let ids = &mut room[..n];
-    load(identifiers, ids);
+    let ids = Words::<64>::of(identifiers).ok_or(Refusal::IdentifierCount)?;
     let mut w = [0u32; RECORD_WORDS];
-    let r = founding::fresh(&mut w, ids, founder);
-    finish_fresh(words, &w, r)
+    founding::fresh(&mut w, ids.as_slice(), founder)?;
+    save(words, &w);
+    Ok(())
 }

@@ -3,17 +3,15 @@
 #![tactic(auto)]
 
 mod foundings;
-mod results;
 
 ghost use Rattle.std.specs.Prelude.{◌≡◌};
 ghost use Rattle.protocol.specs.Answers.{refusal};
 ghost use Rattle.protocol.specs.Bytes.{step_bytes, owner_bytes};
 
 pub use crate::foundings::fresh;
-use crate::results::{finish, finish_owner};
 use protocol::Refusal;
-use protocol::form::{RECORD_BYTES, RECORD_WORDS};
-use word_bytes::loaded;
+use protocol::form::{ANSWER_WORDS, RECORD_BYTES, RECORD_WORDS};
+use word_bytes::{loaded, save};
 
 // One command on the record in the lent bytes. Only the record is loaded, since a step looks at nothing behind it.
 pub fn step(words: &mut [u8], operation: u32, x: u32, y: u32, out: &mut [u8]) -> Result<(), Refusal>
@@ -26,8 +24,10 @@ pub fn step(words: &mut [u8], operation: u32, x: u32, y: u32, out: &mut [u8]) ->
         return Err(Refusal::RecordShort);
     }
     let mut w = loaded::<RECORD_WORDS>(&words[..]);
-    let r = steps::step(&mut w, operation, x, y);
-    finish(words, out, &w, r)
+    let a = steps::step(&mut w, operation, x, y)?;
+    save(words, &w);
+    save(out, &<[u32; ANSWER_WORDS]>::from(a));
+    Ok(())
 }
 
 // The node that holds a number, by the record in the lent bytes, which are only read.
@@ -41,6 +41,7 @@ pub fn owner(words: &[u8], number: u32, out: &mut [u8]) -> Result<(), Refusal>
         return Err(Refusal::RecordShort);
     }
     let w = loaded::<RECORD_WORDS>(words);
-    let r = queries::owner(&w, number);
-    finish_owner(out, r)
+    let hub = queries::owner(&w, number)?;
+    save(out, &[hub]);
+    Ok(())
 }

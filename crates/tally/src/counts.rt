@@ -1,6 +1,9 @@
-ghost use Rattle.std.specs.Prelude.{◌≡◌};
+// The nine counts.
+ghost use Rattle.std.specs.Prelude.{◌≡◌, ℕ};
 ghost use Rattle.protocol.specs.Answers.{kind_of, raised, count_of, raised_at, counted as counted_spec};
+ghost use Rattle.tally.specs.Changed.{changed_at};
 
+use protocol::form::ANSWER_WORDS;
 use protocol::{Answer, Refusal, Tally, answer_kinds};
 
 // 'adds 1 to one of them; a count at 18446744073709551615 stays.'
@@ -10,25 +13,12 @@ fn raise(n: u64) -> u64
     n.saturating_add(1)
 }
 
-// An answer's kind is its place among the nine counts.
+// An answer's kind, the first of its words, is its place among the nine counts.
 fn kind_of(a: Answer) -> u32
     ensures { result ≡ kind_of a }
 {
-    match a {
-        Answer::Quiet => answer_kinds::QUIET,
-        Answer::Found {
-            hub: _,
-            number: _,
-            ticket: _,
-            hops: _,
-        } => answer_kinds::FOUND,
-        Answer::Entered(_) => answer_kinds::ENTERED,
-        Answer::Gone(_) => answer_kinds::GONE,
-        Answer::JoinTurnedAway(_) => answer_kinds::JOIN_TURNED_AWAY,
-        Answer::LeaveTurnedAway(_) => answer_kinds::LEAVE_TURNED_AWAY,
-        Answer::Joined(_) => answer_kinds::JOINED,
-        Answer::Left(_) => answer_kinds::LEFT,
-    }
+    let [kind, ..] = <[u32; ANSWER_WORDS]>::from(a);
+    kind
 }
 
 // A refusal is counted too, in the last place, whatever its number.
@@ -41,24 +31,32 @@ fn count_of(o: Result<Answer, Refusal>) -> u32
     }
 }
 
-// The tally with the count in place k raised. A number that no kind has raises none.
+// The tally with the count in place k changed. A number that no kind has changes none.
+pub fn changed_at<F: Fn(u64) -> u64>(k: u32, t: Tally, change: F) -> Tally
+    requires { F.IsAlwaysCallable change }
+    ensures { (h : ℕ → ℕ) → ((n r : ℕ) → F.post change n r → r ≡ h n) → result ≡ changed_at k h t }
+{
+    let mut changed = t;
+    match k {
+        answer_kinds::QUIET => changed.quiet = change(t.quiet),
+        answer_kinds::FOUND => changed.found = change(t.found),
+        answer_kinds::ENTERED => changed.entered = change(t.entered),
+        answer_kinds::GONE => changed.gone = change(t.gone),
+        answer_kinds::JOIN_TURNED_AWAY => changed.join_turned_away = change(t.join_turned_away),
+        answer_kinds::LEAVE_TURNED_AWAY => changed.leave_turned_away = change(t.leave_turned_away),
+        answer_kinds::JOINED => changed.joined = change(t.joined),
+        answer_kinds::LEFT => changed.left = change(t.left),
+        answer_kinds::REFUSAL => changed.refused = change(t.refused),
+        _ => {}
+    }
+    changed
+}
+
+// The tally with the count in place k raised.
 pub fn raised_at(k: u32, t: Tally) -> Tally
     ensures { result ≡ raised_at k t }
 {
-    let mut raised = t;
-    match k {
-        answer_kinds::QUIET => raised.quiet = raise(t.quiet),
-        answer_kinds::FOUND => raised.found = raise(t.found),
-        answer_kinds::ENTERED => raised.entered = raise(t.entered),
-        answer_kinds::GONE => raised.gone = raise(t.gone),
-        answer_kinds::JOIN_TURNED_AWAY => raised.join_turned_away = raise(t.join_turned_away),
-        answer_kinds::LEAVE_TURNED_AWAY => raised.leave_turned_away = raise(t.leave_turned_away),
-        answer_kinds::JOINED => raised.joined = raise(t.joined),
-        answer_kinds::LEFT => raised.left = raise(t.left),
-        answer_kinds::REFUSAL => raised.refused = raise(t.refused),
-        _ => {}
-    }
-    raised
+    changed_at(k, t, |n| raise(n))
 }
 
 // The tally after a step with this outcome.

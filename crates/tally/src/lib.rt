@@ -4,5 +4,5 @@
 mod counts;
 mod perform;
 
-pub use counts::{counted, raised_at};
+pub use counts::{changed_at, counted, raised_at};
 pub use perform::step;

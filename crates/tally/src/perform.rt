@@ -12,7 +12,6 @@ pub fn step(w: &mut [u32], operation: u32, x: u32, y: u32, t: &mut Tally) -> Res
         × (t.new ≡ counted_spec t.old (step_call w.old operation x y).outcome) }
 {
     let r = steps::step(w, operation, x, y);
-    let before = *t;
-    *t = counted(before, r);
+    *t = counted(*t, r);
     r
 }

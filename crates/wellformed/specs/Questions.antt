@@ -1,8 +1,9 @@
 -- What a call knows after questions 1 and 2, asked in one. Assumes nothing.
-use Rattle.std.specs.Prelude.{◌≡◌, Result, Ok, Err, Bool, true, false, List, ℕ, length}
-use Rattle.std.proofs.Common.{ap, sym, refl}
+use Rattle.std.specs.Prelude.{◌≡◌, Result, Ok, Err, Bool, true, false, List, ℕ, ◌≤◌, length}
+use Rattle.std.proofs.Common.{ap, sym, refl, ◌∙◌, le-leb}
 use Rattle.std.proofs.Math.Dec.{leb→le}
 use Rattle.lists.specs.Tests.{true_T}
+use Rattle.lists.specs.Choice.{on_yes}
 use Rattle.lists.specs.Basics.{when◌then◌else◌, require}
 use Rattle.protocol.specs.declared.refusal.Refusal.{Refusal}
 use Rattle.protocol.specs.declared.refusal.Refusal.TheVariants.{RecordShort, NotWellFormed}
@@ -49,3 +50,21 @@ passed_so w e = go (long w) (well_formed w) refl refl e
     go true true l f e = valid w (leb→le record_size (length w) (true_T _ l)) f
     go true false l f e = absurd (true_T false (ap stopped e))
     go false q l f e = absurd (true_T false (ap stopped e))
+
+pub passed_formed : (w : List ℕ) → granted ≡ asked w → well_formed w ≡ true
+unfolding on_record require when◌then◌else◌ stopped
+passed_formed w e = go (long w) (well_formed w) refl e
+  where
+    go : (p q : Bool) → well_formed w ≡ q → granted ≡ require p (Err RecordShort) (require q (Err NotWellFormed) granted) → well_formed w ≡ true
+    go true true f e = f
+    go true false f e = absurd (true_T false (ap stopped e))
+    go false q f e = absurd (true_T false (ap stopped e))
+
+-- What is long enough and is stopped, is not well formed.
+pub stopped_long : (w : List ℕ) (k : Refusal) → record_size ≤ length w → Err k ≡ asked w → (well_formed w ≡ false) × (k ≡ NotWellFormed)
+unfolding on_record require when◌then◌else◌ by stopped long
+stopped_long w k l e = go (well_formed w) refl (e ∙ on_yes (long w) _ _ (le-leb record_size (length w) l))
+  where
+    go : (q : Bool) → well_formed w ≡ q → Err k ≡ require q (Err NotWellFormed) granted → (well_formed w ≡ false) × (k ≡ NotWellFormed)
+    go true f e = absurd (true_T false (sym (ap stopped e)))
+    go false f e = (f, ap by e)

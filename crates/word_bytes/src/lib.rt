@@ -1,9 +1,13 @@
 // Words out of bytes, and into bytes, for the calls from C. The loops have no way out but their end, so that the compiler can take many words at a time.
 #![tactic(auto)]
 
+mod counted;
+
 ghost use Rattle.std.specs.Prelude.{◌≡◌, ◌+◌, ◌*◌, ◌≤◌, length};
 ghost use Rattle.protocol.specs.Bytes.{over};
 ghost use Rattle.word_bytes.specs.Carry.{word_at, first_words};
+
+pub use counted::Words;
 
 // Word i, lowest byte first.
 fn word_at(b: &[u8], i: usize) -> u32

@@ -1,70 +1,84 @@
 -- `ask`: the questions of the call in order, then the questions on the words that were loaded. Assumes nothing.
 use Rattle.protocol.specs.Answers.{refusal}
-use mathlib.Core.Path.{◌≡◌, sym, ap, subst, ◌∙◌}
+use mathlib.Core.Path.{◌≡◌, sym, ap, subst, ◌∙◌, refl}
 use mathlib.Core.Bool.{true}
 use Prim.Native.Nat.{ℕ, ◌*◌, ◌/◌}
 use native.Mathlib.Omega.{arith}
 use lib.ListN.{length, replicate}
 use lib.Seq.{length-take-le}
+use Rattle.std.specs.Prelude.{List}
+use Rattle.std.proofs.lemmas.Result.{err_from_is_err_and}
 use Rattle.lists.specs.Basics.{All}
 use Rattle.lists.specs.Members.{all_at}
 use Rattle.lists.specs.Blocks.{length_table}
+use Rattle.protocol.specs.declared.refusal.Refusal.TheVariants.{RouteLong}
 use Rattle.protocol.specs.Record.{record_size}
 use Rattle.protocol.specs.WellFormed.{well_formed}
-use Rattle.protocol.specs.Bytes.{Byte}
+use Rattle.protocol.specs.Bytes.{Byte, words_of}
 use Rattle.layout.specs.Form.{Valid}
-use Rattle.word_bytes.specs.Carry.{word_at, first_words}
-use Rattle.batch_bytes.specs.Results.{loaded_valid, bytes_1, bytes_2, bytes_25, bytes_26, bytes_rest}
+use Rattle.wellformed.specs.Questions.{passed_formed, passed_so, stopped_long}
+use Rattle.word_bytes.specs.Carry.{word_at, first_words, words_all, words_length}
+use Rattle.word_bytes.specs.Counted.{all_came, too_many}
+use Rattle.batch_bytes.specs.Results.{bytes_1, bytes_2, bytes_25, bytes_26, bytes_rest}
 use Rattle.batch_bytes.proofs.ask.Goals as goal
 
 pub returns-then-words-lt-RECORD_BYTES : goal.returns-then-words-lt-RECORD_BYTES
 unfolding refusal
 returns-then-words-lt-RECORD_BYTES c =
     let a = c.args in
-    let b = a.words.now in
-    bytes_1 b a.node a.numbers.now a.outcomes.now (omega arith)
+    bytes_1 a.words.now a.node a.numbers.now a.outcomes.now (omega arith)
 
-pub returns-then-not-well_formed : goal.returns-then-not-well_formed
+pub returns-in_err-questions : goal.returns-in_err-questions
 unfolding refusal
-returns-then-not-well_formed c =
+returns-in_err-questions c =
     let a = c.args in
     let b = a.words.now in
-    bytes_2 b a.node a.numbers.now a.outcomes.now (omega arith) (ap well_formed (sym c.loaded-w.ensures) ∙ sym c.well_formed-2.ensures ∙ c.if-not-well_formed.true)
+    let refused = err_from_is_err_and c.from_residual.result c.from_residual.ensures.1 in
+    let size = length_table record_size (word_at b) in
+    let stopped = stopped_long (first_words b record_size) _ (omega (arith, size)) (rw c.loaded-w.ensures at c.in_err-questions.ensures) in
+    bytes_2 b a.node a.numbers.now a.outcomes.now (omega arith) stopped.0 ∙ rw (refused.1, refused.2, stopped.1) refl
 
-pub returns-then-n-gt-MOST_QUESTIONS : goal.returns-then-n-gt-MOST_QUESTIONS
+pub returns-in_err-asked : goal.returns-in_err-asked
 unfolding refusal
-returns-then-n-gt-MOST_QUESTIONS c =
+returns-in_err-asked c =
     let a = c.args in
     let b = a.words.now in
-    let f : well_formed (first_words b record_size) ≡ true = ap well_formed (sym c.loaded-w.ensures) ∙ sym c.well_formed-2.ensures ∙ c.if-not-well_formed.false in
-    bytes_25 b a.node a.numbers.now a.outcomes.now (omega arith) f (omega arith)
+    let refused = err_from_is_err_and c.from_residual-in_err-asked.result c.from_residual-in_err-asked.ensures.1 in
+    let f : well_formed (first_words b record_size) ≡ true = passed_formed (first_words b record_size) (rw c.loaded-w.ensures at c.in_ok-questions.ensures) in
+    let many = too_many 64 a.numbers.now RouteLong c.of.result _ c.of.ensures c.in_err-asked.ensures.value in
+    bytes_25 b a.node a.numbers.now a.outcomes.now (omega arith) f (omega (arith, many.1)) ∙ rw (refused.1, refused.2, many.0) refl
 
-pub returns-then-outcomes-n : goal.returns-then-outcomes-n
+pub returns-then-outcomes-numbers : goal.returns-then-outcomes-numbers
 unfolding refusal
-returns-then-outcomes-n c =
-    let a = c.args in
-    let b = a.words.now in
-    let f : well_formed (first_words b record_size) ≡ true = ap well_formed (sym c.loaded-w.ensures) ∙ sym c.well_formed-2.ensures ∙ c.if-not-well_formed.false in
-    bytes_26 b a.node a.numbers.now a.outcomes.now (omega arith) f (omega arith) (omega arith)
-
-pub ask_each-requires : goal.ask_each-requires
-ask_each-requires c =
+returns-then-outcomes-numbers c =
     let a = c.args in
     let b = a.words.now in
     let i = a.numbers.now in
-    let n = length-take-le (length i / 4) (replicate {A = ℕ} 64 0) (omega arith) in (
-      subst Valid (sym c.loaded-w.ensures) (loaded_valid b a.node i a.outcomes.now (omega arith) (ap well_formed (sym c.loaded-w.ensures) ∙ sym c.well_formed-2.ensures ∙ c.if-not-well_formed.false)),
-      omega (arith, n),
-    )
+    let f : well_formed (first_words b record_size) ≡ true = passed_formed (first_words b record_size) (rw c.loaded-w.ensures at c.in_ok-questions.ensures) in
+    let came = all_came 64 i RouteLong c.of.result c.in_ok-asked.asked c.of.ensures c.in_ok-asked.ensures.value in
+    let count : length c.as_slice-numbers.result.now ≡ length i / 4 = ap length (c.as_slice-numbers.ensures ∙ came.0) ∙ words_length i in
+    bytes_26 b a.node i a.outcomes.now (omega arith) f came.1 (omega (arith, count))
+
+pub ask_each-requires : goal.ask_each-requires
+ask_each-requires c =
+    let i = c.args.numbers.now in
+    let came = all_came 64 i RouteLong c.of.result c.in_ok-asked.asked c.of.ensures c.in_ok-asked.ensures.value in
+    let count : length c.as_slice-numbers.result.now ≡ length i / 4 = ap length (c.as_slice-numbers.ensures ∙ came.0) ∙ words_length i in
+    (passed_so c.loaded-w.result c.in_ok-questions.ensures, omega (arith, count, came.1))
 
 pub slice_bounds-save-end-2 : goal.slice_bounds-save-end-2
 slice_bounds-save-end-2 c =
-    let n = length c.args.numbers.now / 4 in sym (length-take-le (6 * n) c.ask_each.new.outcomes (omega arith))
+    let i = c.args.numbers.now in
+    let came = all_came 64 i RouteLong c.of.result c.in_ok-asked.asked c.of.ensures c.in_ok-asked.ensures.value in
+    let count : length c.as_slice-numbers.result.now ≡ length i / 4 = ap length (c.as_slice-numbers.ensures ∙ came.0) ∙ words_length i in
+    sym (length-take-le (6 * length c.as_slice-numbers.result.now) c.ask_each.new.outcomes (omega (arith, count, came.1)))
 
 pub save-requires-2 : goal.save-requires-2
 save-requires-2 c =
-    let n = length c.args.numbers.now / 4 in
-    omega (arith, length-take-le (6 * n) c.ask_each.new.outcomes (omega arith))
+    let i = c.args.numbers.now in
+    let came = all_came 64 i RouteLong c.of.result c.in_ok-asked.asked c.of.ensures c.in_ok-asked.ensures.value in
+    let count : length c.as_slice-numbers.result.now ≡ length i / 4 = ap length (c.as_slice-numbers.ensures ∙ came.0) ∙ words_length i in
+    omega (arith, count, came.1, length-take-le (6 * length c.as_slice-numbers.result.now) c.ask_each.new.outcomes (omega (arith, count, came.1)))
 
 pub returns : goal.returns
 unfolding refusal
@@ -75,11 +89,12 @@ returns c =
     let out = a.outcomes.now in
     let n = length i / 4 in
     let r = c.ask_each in
-    let count : length (first_words i n) ≡ n = length_table n (word_at i) in
-    let loaded : c.load.new.w ≡ first_words i n = c.load.ensures ∙ ap (first_words i) (length-take-le n (replicate 64 0) (omega arith)) in
+    let f : well_formed (first_words b record_size) ≡ true = passed_formed (first_words b record_size) (rw c.loaded-w.ensures at c.in_ok-questions.ensures) in
+    let came = all_came 64 i RouteLong c.of.result c.in_ok-asked.asked c.of.ensures c.in_ok-asked.ensures.value in
+    let count : length c.as_slice-numbers.result.now ≡ length i / 4 = ap length (c.as_slice-numbers.ensures ∙ came.0) ∙ words_length i in
+    let numbers : c.as_slice-numbers.result.now ≡ first_words i n = c.as_slice-numbers.ensures ∙ came.0 ∙ words_all i in
     let bytes : All Byte b = all_at Byte b 0 (λ k h. omega (arith, c.slice_known-1.given k)) in
     let room : All Byte out = all_at Byte out 0 (λ k h. omega (arith, c.slice_known-2-1.given k)) in
-    let f : well_formed (first_words b record_size) ≡ true = ap well_formed (sym c.loaded-w.ensures) ∙ sym c.well_formed-2.ensures ∙ c.if-not-well_formed.false in
-    bytes_rest b a.node i out (omega arith) f (omega arith) (omega arith) bytes room (replicate 384 0) r.new.w r.new.outcomes
-    (rw (c.loaded-w.ensures, loaded) at r.ensures)
-    ∙ simp (count, c.save.ensures, c.save-2.ensures)
+    bytes_rest b a.node i out (omega arith) f came.1 (omega (arith, count)) bytes room (replicate 384 0) r.new.w r.new.outcomes
+    (rw (c.loaded-w.ensures, numbers) at r.ensures)
+    ∙ rw (c.save.ensures, c.save-2.ensures, numbers) refl

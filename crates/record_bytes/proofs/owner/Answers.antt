@@ -1,6 +1,8 @@
 -- `owner` meets its contract: the query on the record is the query on all words. Assumes nothing.
-use Rattle.protocol.specs.Answers.{refusal}
-use mathlib.Core.Path.{◌∙◌}
+use Rattle.protocol.specs.Answers.{refusal, number_words}
+use Rattle.protocol.specs.Bytes.{over, told}
+use mathlib.Core.Path.{◌∙◌, refl}
+use Rattle.std.proofs.lemmas.Result.{err_from_is_err_and}
 use native.Mathlib.Omega.{arith}
 use Rattle.record_bytes.specs.Results.{owner_17, owner_1, owner_rest}
 use Rattle.record_bytes.proofs.owner.Goals as goal
@@ -13,8 +15,17 @@ pub returns-then-words-lt-RECORD_BYTES : goal.returns-then-words-lt-RECORD_BYTES
 unfolding refusal
 returns-then-words-lt-RECORD_BYTES c = owner_1 c.args.words.now c.args.out.now c.args.number (omega arith) (omega arith)
 
+pub returns-in_err-hub : goal.returns-in_err-hub
+unfolding told refusal number_words over
+returns-in_err-hub c =
+    let a = c.args in
+    let refused = err_from_is_err_and c.from_residual.result c.from_residual.ensures.1 in
+    owner_rest a.words.now a.out.now a.number (omega arith) (omega arith)
+    ∙ rw (← c.loaded-w.ensures, ← c.in_err-hub.ensures, refused.1, refused.2) refl
+
 pub returns : goal.returns
+unfolding told refusal number_words
 returns c =
     let a = c.args in
     owner_rest a.words.now a.out.now a.number (omega arith) (omega arith)
-    ∙ rw (← c.loaded-w.ensures, ← c.owner-r.ensures) c.finish_owner.ensures
+    ∙ rw (← c.loaded-w.ensures, ← c.in_ok-hub.ensures, c.save.ensures) refl

@@ -11,5 +11,5 @@ returns-in-Err c = simp (c.in-Err.is, c.from.ensures)
 pub returns-in-Ok : goal.returns-in-Ok
 unfolding place_words
 returns-in-Ok c =
-    let words = c.answer_words in
+    let words = c.from-in-Ok in
     ap (λ l. 0 ∷ l) (word_by_word words.result (ap length words.ensures ∙ answer_size c.in-Ok.a) ∙ words.ensures) ∙ ap place_words (sym c.in-Ok.is)

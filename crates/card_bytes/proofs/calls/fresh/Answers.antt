@@ -1,13 +1,18 @@
 -- `fresh` meets its contract: a fresh call on other words is one on the lent words, and writes all of both slices. Assumes nothing.
-use mathlib.Core.Path.{◌≡◌, ap, ◌∙◌}
-use lib.Seq.{length-take-le}
+use mathlib.Core.Path.{◌≡◌, ap, ◌∙◌, refl}
+use Rattle.std.proofs.Common.{sym}
+use Rattle.std.proofs.lemmas.Result.{err_from_is_err_and}
 use Rattle.protocol.specs.Answers.{refusal}
 use Prim.Native.Nat.{ℕ, ◌/◌}
 use native.Mathlib.Omega.{arith}
 use lib.ListN.{length, replicate, length-replicate}
+use Rattle.protocol.specs.declared.refusal.Refusal.TheVariants.{IdentifierCount}
 use Rattle.protocol.specs.Fresh.{founder_of}
-use Rattle.protocol.specs.Bytes.{words_of}
-use Rattle.word_bytes.specs.Carry.{first_words, words_all}
+use Rattle.protocol.specs.Bytes.{words_of, bytes_after}
+use Rattle.protocol.specs.Cards.{fresh_by_cards}
+use Rattle.protocol.specs.CardBytes.{founded_cards}
+use Rattle.word_bytes.specs.Carry.{words_all}
+use Rattle.word_bytes.specs.Counted.{all_came, too_many}
 use Rattle.card_bytes.specs.Results.{fresh_cards_1, fresh_cards_short, fresh_cards_13, fresh_cards_rest}
 use Rattle.card_bytes.proofs.calls.fresh.Goals as goal
 
@@ -21,17 +26,32 @@ unfolding refusal
 returns-then-book-lt-BOOK_BYTES c =
     let a = c.args in fresh_cards_short a.words.now a.book.now a.identifiers.now (founder_of a.founder (words_of a.identifiers.now)) (omega arith) (omega arith)
 
-pub returns-then-n-gt64 : goal.returns-then-n-gt64
+pub returns-in_err-ids : goal.returns-in_err-ids
 unfolding refusal
-returns-then-n-gt64 c =
-    let a = c.args in fresh_cards_13 a.words.now a.book.now a.identifiers.now (founder_of a.founder (words_of a.identifiers.now)) (omega arith) (omega arith) (omega arith)
+returns-in_err-ids c =
+    let a = c.args in
+    let refused = err_from_is_err_and c.from_residual.result c.from_residual.ensures.1 in
+    let many = too_many 64 a.identifiers.now IdentifierCount c.of.result _ c.of.ensures c.in_err-ids.ensures.value in
+    fresh_cards_13 a.words.now a.book.now a.identifiers.now (founder_of a.founder (words_of a.identifiers.now)) (omega arith) (omega arith) (omega (arith, many.1))
+    ∙ rw (refused.1, refused.2, many.0) refl
+
+pub returns-in_err-fresh : goal.returns-in_err-fresh
+unfolding founded_cards refusal bytes_after
+returns-in_err-fresh c =
+    let a = c.args in
+    let ids = a.identifiers.now in
+    let came = all_came 64 ids IdentifierCount c.of.result c.in_ok-ids.ids c.of.ensures c.in_ok-ids.ensures.value in
+    let refused = err_from_is_err_and c.from_residual-in_err-fresh.result c.from_residual-in_err-fresh.ensures.1 in
+    fresh_cards_rest a.words.now a.book.now ids (founder_of a.founder (words_of ids)) (omega arith) (omega arith) (replicate 1988 0) (replicate 2113 0) (length-replicate {A = ℕ} 1988 0) (length-replicate {A = ℕ} 2113 0) _ _ _
+    (ap (λ i. fresh_by_cards (replicate 1988 0) (replicate 2113 0) i (founder_of a.founder (words_of ids))) (sym (words_all ids)) ∙ rw (c.as_slice.ensures, came.0) at c.in_err-fresh.ensures)
+    ∙ rw (refused.1, refused.2) refl
 
 pub returns : goal.returns
+unfolding founded_cards refusal bytes_after
 returns c =
     let a = c.args in
-    let i = a.identifiers.now in
-    let n = length i / 4 in
-    let loaded : c.load.new.w ≡ first_words i n = c.load.ensures ∙ ap (first_words i) (length-take-le n (replicate 64 0) (omega arith)) in
-    fresh_cards_rest a.words.now a.book.now i (founder_of a.founder (words_of a.identifiers.now)) (omega arith) (omega arith) (replicate 1988 0) (replicate 2113 0) (length-replicate {A = ℕ} 1988 0) (length-replicate {A = ℕ} 2113 0) _ _ _
-    (rw words_all (rw loaded at c.fresh-r.ensures))
-    ∙ c.finish_fresh.ensures
+    let ids = a.identifiers.now in
+    let came = all_came 64 ids IdentifierCount c.of.result c.in_ok-ids.ids c.of.ensures c.in_ok-ids.ensures.value in
+    fresh_cards_rest a.words.now a.book.now ids (founder_of a.founder (words_of ids)) (omega arith) (omega arith) (replicate 1988 0) (replicate 2113 0) (length-replicate {A = ℕ} 1988 0) (length-replicate {A = ℕ} 2113 0) _ _ _
+    (ap (λ i. fresh_by_cards (replicate 1988 0) (replicate 2113 0) i (founder_of a.founder (words_of ids))) (sym (words_all ids)) ∙ rw (c.as_slice.ensures, came.0) at c.in_ok-fresh.ensures)
+    ∙ simp (c.save.ensures, c.save-2.ensures)

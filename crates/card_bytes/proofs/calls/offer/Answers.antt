@@ -1,6 +1,9 @@
 -- `offer` meets its contract: the first words of both slices are loaded, and the cards written back. Assumes nothing.
 use Rattle.protocol.specs.Answers.{refusal}
-use mathlib.Core.Path.{◌∙◌}
+use mathlib.Core.Path.{◌∙◌, refl}
+use Rattle.std.proofs.lemmas.Result.{err_from_is_err_and}
+use Rattle.protocol.specs.Bytes.{bytes_after}
+use Rattle.protocol.specs.CardBytes.{taken}
 use native.Mathlib.Omega.{arith}
 use Rattle.card_bytes.specs.Results.{offer_1, offer_short, offer_rest}
 use Rattle.card_bytes.proofs.calls.offer.Goals as goal
@@ -13,9 +16,19 @@ pub returns-then-book-lt-BOOK_BYTES : goal.returns-then-book-lt-BOOK_BYTES
 unfolding refusal
 returns-then-book-lt-BOOK_BYTES c = let a = c.args in offer_short a.words.now a.book.now a.machine a.revision a.price (omega arith) (omega arith)
 
+pub returns-in_err-offer : goal.returns-in_err-offer
+unfolding taken refusal bytes_after
+returns-in_err-offer c =
+    let a = c.args in
+    let refused = err_from_is_err_and c.from_residual.result c.from_residual.ensures.1 in
+    offer_rest a.words.now a.book.now a.machine a.revision a.price (omega arith) (omega arith) _ _ _
+    (rw (c.loaded-w.ensures, c.loaded-k.ensures) at c.in_err-offer.ensures)
+    ∙ rw (refused.1, refused.2) refl
+
 pub returns : goal.returns
+unfolding taken refusal bytes_after
 returns c =
     let a = c.args in
     offer_rest a.words.now a.book.now a.machine a.revision a.price (omega arith) (omega arith) _ _ _
-    (rw (c.loaded-w.ensures, c.loaded-k.ensures) at c.offer-r.ensures)
-    ∙ c.finish_offer.ensures _
+    (rw (c.loaded-w.ensures, c.loaded-k.ensures) at c.in_ok-offer.ensures)
+    ∙ simp c.save.ensures

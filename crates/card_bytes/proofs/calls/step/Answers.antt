@@ -1,6 +1,9 @@
 -- `step` meets its contract: the first words of both slices are loaded, and written back. Assumes nothing.
-use Rattle.protocol.specs.Answers.{refusal}
-use mathlib.Core.Path.{◌∙◌}
+use Rattle.protocol.specs.Answers.{refusal, outcome_words}
+use mathlib.Core.Path.{◌∙◌, refl}
+use Rattle.std.proofs.lemmas.Result.{err_from_is_err_and}
+use Rattle.protocol.specs.Bytes.{over, bytes_after}
+use Rattle.protocol.specs.CardBytes.{carried_cards}
 use native.Mathlib.Omega.{arith}
 use Rattle.card_bytes.specs.Results.{step_cards_17, step_cards_1, step_cards_short, step_cards_rest}
 use Rattle.card_bytes.proofs.calls.step.Goals as goal
@@ -17,8 +20,19 @@ pub returns-then-book-lt-BOOK_BYTES : goal.returns-then-book-lt-BOOK_BYTES
 unfolding refusal
 returns-then-book-lt-BOOK_BYTES c = let a = c.args in step_cards_short a.words.now a.book.now a.out.now a.operation a.x a.y (omega arith) (omega arith) (omega arith)
 
-pub returns : goal.returns
-returns c = let a = c.args in
+pub returns-in_err-a : goal.returns-in_err-a
+unfolding carried_cards refusal outcome_words bytes_after over
+returns-in_err-a c =
+    let a = c.args in
+    let refused = err_from_is_err_and c.from_residual.result c.from_residual.ensures.1 in
     step_cards_rest a.words.now a.book.now a.out.now a.operation a.x a.y (omega arith) (omega arith) (omega arith) _ _ _
-    (rw (c.loaded-w.ensures, c.loaded-k.ensures) at c.step-r.ensures)
-    ∙ c.finish_step.ensures
+    (rw (c.loaded-w.ensures, c.loaded-k.ensures) at c.in_err-a.ensures)
+    ∙ rw (refused.1, refused.2) refl
+
+pub returns : goal.returns
+unfolding carried_cards refusal outcome_words bytes_after
+returns c =
+    let a = c.args in
+    step_cards_rest a.words.now a.book.now a.out.now a.operation a.x a.y (omega arith) (omega arith) (omega arith) _ _ _
+    (rw (c.loaded-w.ensures, c.loaded-k.ensures) at c.in_ok-a.ensures)
+    ∙ simp (c.save.ensures, c.save-2.ensures, c.from.ensures, c.save-3.ensures)

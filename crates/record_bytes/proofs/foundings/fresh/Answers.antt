@@ -1,16 +1,20 @@
 -- `fresh` meets its contract: a fresh call on other words is one on the lent words, and writing the record is writing all of them. Assumes nothing.
-use mathlib.Core.Path.{◌≡◌, ap, ◌∙◌}
-use lib.Seq.{length-take-le}
+use mathlib.Core.Path.{◌≡◌, ap, ◌∙◌, refl}
+use Rattle.std.proofs.Common.{sym}
 use Rattle.protocol.specs.Answers.{refusal}
 use Prim.Native.Nat.{ℕ, ◌/◌}
 use lib.ListN.{length, replicate, length-replicate}
 use native.Mathlib.Omega.{arith}
 use Rattle.lists.specs.Basics.{All}
 use Rattle.lists.specs.Members.{all_at}
-use Rattle.word_bytes.specs.Carry.{first_words, words_all}
+use Rattle.std.proofs.lemmas.Result.{err_from_is_err_and}
+use Rattle.protocol.specs.declared.refusal.Refusal.TheVariants.{IdentifierCount}
+use Rattle.word_bytes.specs.Carry.{words_all}
+use Rattle.word_bytes.specs.Counted.{all_came, too_many}
 use Rattle.protocol.specs.Fresh.{founder_of}
+use Rattle.protocol.specs.Calls.{fresh_by_call}
 use Rattle.record_bytes.specs.Results.{fresh_1, fresh_13, fresh_rest}
-use Rattle.protocol.specs.Bytes.{Byte, words_of}
+use Rattle.protocol.specs.Bytes.{Byte, words_of, bytes_after, fresh_carried}
 use Rattle.record_bytes.proofs.foundings.fresh.Goals as goal
 
 pub returns-then-words-lt-RECORD_BYTES : goal.returns-then-words-lt-RECORD_BYTES
@@ -19,20 +23,36 @@ returns-then-words-lt-RECORD_BYTES c =
     let a = c.args in
     fresh_1 a.words.now a.identifiers.now (founder_of a.founder (words_of a.identifiers.now)) (omega arith)
 
-pub returns-then-n-gt64 : goal.returns-then-n-gt64
+pub returns-in_err-ids : goal.returns-in_err-ids
 unfolding refusal
-returns-then-n-gt64 c =
+returns-in_err-ids c =
     let a = c.args in
-    fresh_13 a.words.now a.identifiers.now (founder_of a.founder (words_of a.identifiers.now)) (omega arith) (omega arith)
+    let refused = err_from_is_err_and c.from_residual.result c.from_residual.ensures.1 in
+    let many = too_many 64 a.identifiers.now IdentifierCount c.of.result _ c.of.ensures c.in_err-ids.ensures.value in
+    fresh_13 a.words.now a.identifiers.now (founder_of a.founder (words_of a.identifiers.now)) (omega arith) (omega (arith, many.1))
+    ∙ rw (refused.1, refused.2, many.0) refl
+
+pub returns-in_err-fresh : goal.returns-in_err-fresh
+unfolding fresh_carried refusal bytes_after
+returns-in_err-fresh c =
+    let a = c.args in
+    let b = a.words.now in
+    let bytes : All Byte b = all_at Byte b 0 (λ i h. omega (arith, c.slice_known-1.given i)) in
+    let ids = a.identifiers.now in
+    let came = all_came 64 ids IdentifierCount c.of.result c.in_ok-ids.ids c.of.ensures c.in_ok-ids.ensures.value in
+    let refused = err_from_is_err_and c.from_residual-in_err-fresh.result c.from_residual-in_err-fresh.ensures.1 in
+    fresh_rest b ids (founder_of a.founder (words_of ids)) bytes (omega arith) came.1 (replicate 1988 0) (length-replicate {A = ℕ} 1988 0) _ _
+    (ap (λ i. fresh_by_call (replicate 1988 0) i (founder_of a.founder (words_of ids))) (sym (words_all ids)) ∙ rw (c.as_slice.ensures, came.0) at c.in_err-fresh.ensures)
+    ∙ rw (refused.1, refused.2) refl
 
 pub returns : goal.returns
+unfolding fresh_carried refusal bytes_after
 returns c =
     let a = c.args in
     let b = a.words.now in
     let bytes : All Byte b = all_at Byte b 0 (λ i h. omega (arith, c.slice_known-1.given i)) in
     let ids = a.identifiers.now in
-    let n = length ids / 4 in
-    let loaded : c.load.new.w ≡ first_words ids n = c.load.ensures ∙ ap (first_words ids) (length-take-le n (replicate 64 0) (omega arith)) in
-    fresh_rest b ids (founder_of a.founder (words_of ids)) bytes (omega arith) (omega arith) (replicate 1988 0) (length-replicate {A = ℕ} 1988 0) _ _
-    (rw words_all (rw loaded at c.fresh-r.ensures))
-    ∙ c.finish_fresh.ensures
+    let came = all_came 64 ids IdentifierCount c.of.result c.in_ok-ids.ids c.of.ensures c.in_ok-ids.ensures.value in
+    fresh_rest b ids (founder_of a.founder (words_of ids)) bytes (omega arith) came.1 (replicate 1988 0) (length-replicate {A = ℕ} 1988 0) _ _
+    (ap (λ i. fresh_by_call (replicate 1988 0) i (founder_of a.founder (words_of ids))) (sym (words_all ids)) ∙ rw (c.as_slice.ensures, came.0) at c.in_ok-fresh.ensures)
+    ∙ simp c.save.ensures
