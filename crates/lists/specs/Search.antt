@@ -1,7 +1,7 @@
 -- The first place at which a test passes. Assumes nothing.
-use Rattle.std.specs.Prelude.{◌≡◌, Bool, ◌⊎◌}
+use Rattle.std.specs.Prelude.{◌≡◌, Bool, ◌⊎◌, Option, Some, None, ◌≤◌, MatchOption}
 use Rattle.std.proofs.Math.Path.{refl, ap}
-use Rattle.std.proofs.Common.{◌∙◌, eq-or-lt_of_le, le_of_suc-le-suc, add-one, arith}
+use Rattle.std.proofs.Common.{◌∙◌, sym, eq-or-lt_of_le, le_of_suc-le-suc, add-one, arith}
 use Rattle.std.proofs.Math.Bool.{true, false}
 use Rattle.std.proofs.Math.Logic.{inl, inr, ⊎_elim}
 use Prim.Native.Nat.{ℕ, suc, zero, ◌+◌, ◌<◌}
@@ -59,3 +59,18 @@ pub first_cong : (f g : ℕ → Bool) (n : ℕ) → ((i : ℕ) → i < n → f i
 unfolding first
 first_cong f g zero h = refl
 first_cong f g (suc n) h = rw (first_cong f g n (λ i l. h i (omega arith)), h n (omega arith))
+
+-- What a search over the numbers below n says of its answer, and that it is the first.
+pub first_found : (f : ℕ → Bool) (n : ℕ) (r : Option ℕ)
+    → MatchOption r ((k : ℕ) → 0 ≤ k → k < n → f k ≡ false) (λ i. (0 ≤ i) × (i < n) × (f i ≡ true) × ((k : ℕ) → 0 ≤ k → k < i → f k ≡ false))
+    → MatchOption r (first f n ≡ n) (λ i. (i ≡ first f n) × (i < n))
+first_found f n None none = go (search_ends f n)
+  where
+    go : Located f n ⊎ Missed f n → first f n ≡ n
+    go (inl k) = let q : ◌≡◌ {A = Bool} false true = sym (none (first f n) (omega arith) k.below) ∙ k.here in cc
+    go (inr k) = k.end
+first_found f n (Some i) (low, below, here, before) = (sym (first_at f n i (start i before) here below), below)
+  where
+    start : (m : ℕ) → ((k : ℕ) → 0 ≤ k → k < m → f k ≡ false) → first f m ≡ m
+    start zero none = first_none f
+    start (suc m) none = sym (ap (λ k. first f k) (add-one m)) ∙ first_more f m (start m (λ k a b. none k a (omega arith))) (none m (omega arith) (omega arith)) ∙ add-one m

@@ -28,12 +28,7 @@ fn first_holder(w: &[u32], v: u32) -> Option<u32>
     requires { Valid w.now }
     ensures { MatchOption result (lowest_holder (read w.now) v ≡ count_in w.now) (λ node. (node ≡ lowest_holder (read w.now) v) × (node < count_in w.now)) }
 {
-    for node in 0..w[1] {
-        if holds(w, node, v) {
-            return Some(node);
-        }
-    }
-    None
+    (0..w[1]).find(|node| holds(w, *node, v))
 }
 
 // The node that holds a number.

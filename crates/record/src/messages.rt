@@ -27,13 +27,10 @@ pub fn find(w: &[u32], x: u32, y: u32) -> Option<u32>
     requires { (record_size ≤ length w.now) × (messages_in w.now ≤ most_messages) }
     ensures { MatchOption result (oldest (read w.now) x y ≡ messages_in w.now) (λ j. (j ≡ oldest (read w.now) x y) × (j < messages_in w.now)) }
 {
-    for j in 0..w[2] {
-        let at = MESSAGES_AT + MESSAGE_WORDS * (j as usize);
-        if (w[at + 1] == x) & (w[at + 2] == y) {
-            return Some(j);
-        }
-    }
-    None
+    (0..w[2]).find(|j| {
+        let at = MESSAGES_AT + MESSAGE_WORDS * (*j as usize);
+        (w[at + 1] == x) & (w[at + 2] == y)
+    })
 }
 
 // Puts a message behind the n that are there.

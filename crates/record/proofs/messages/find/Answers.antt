@@ -1,33 +1,23 @@
--- `find`: no message before j is on the link; the first that is, is the oldest. Assumes nothing.
-use Rattle.layout.specs.Words.{on_link_read, oldest_read}
+-- `find`: the first message of the link is the oldest. Assumes nothing.
 use borrow.Author.Rules.{rules}
 use mathlib.Core.Path.{◌≡◌, sym, ◌∙◌}
-use native.Mathlib.Omega.{arith}
-use Rattle.lists.specs.Search.{first_none, first_more, first_at}
-use Rattle.protocol.specs.Record.{read, messages_in}
+use mathlib.Core.Bool.{Bool, true, false, ◌&&◌}
+use Prim.Native.Nat.{ℕ, ◌+◌}
+use Rattle.std.specs.Prelude.{nat_eq}
+use lib.ListN.{get_or}
+use Rattle.std.proofs.lemmas.Iterator.{first_from_Range}
+use Rattle.layout.specs.Words.{on_link_read, oldest_read}
+use Rattle.lists.specs.Search.{first_cong, first_found}
+use Rattle.protocol.specs.Record.{read, messages_in, message_start}
 use Rattle.protocol.specs.Step.{on_link}
 use Rattle.record.proofs.messages.find.Goals as goal
-
-pub loop-j-init : goal.loop-j-init
-loop-j-init c = first_none _
-
-pub returns-then-w-at : goal.returns-then-w-at
-returns-then-w-at c =
-    let a = c.args in
-    let l = c.loop-j in
-    let w = a.w.now in
-    (sym (oldest_read w a.x a.y ∙ first_at (on_link (read w) a.x a.y) (messages_in w) l.j l.invariant (on_link_read w a.x a.y l.j (search rules) ∙ c.if-w-at.true) (search rules)), search rules)
-
-pub loop-j-preserved : goal.loop-j-preserved
-loop-j-preserved c =
-    let a = c.args in
-    let l = c.loop-j in
-    let w = a.w.now in
-    first_more (on_link (read w) a.x a.y) l.j l.invariant (on_link_read w a.x a.y l.j (search rules) ∙ c.if-w-at.false)
 
 pub returns : goal.returns
 returns c =
     let a = c.args in
     let w = a.w.now in
-    let e : c.loop-j.j ≡ messages_in w = omega arith in
-    oldest_read w a.x a.y ∙ rw e at c.loop-j.invariant
+    let n = messages_in w in
+    let p : ℕ → Bool = λ j. nat_eq (get_or w (message_start j + 1) 0) a.x && nat_eq (get_or w (message_start j + 2) 0) a.y in
+    rw (oldest_read w a.x a.y ∙ first_cong (on_link (read w) a.x a.y) p n (λ j l. on_link_read w a.x a.y j l))
+    (first_found p n c.find.result
+    (first_from_Range _ _ _ c.find.result (λ j. p j ≡ true) (λ j. p j ≡ false) c.find.ensures.ran (λ x q h. search rules) (λ x q h. (search rules, search rules))))
