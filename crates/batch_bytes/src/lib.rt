@@ -7,7 +7,7 @@ ghost use Rattle.protocol.specs.Answers.{refusal};
 ghost use Rattle.protocol.specs.Batch.{batch_bytes};
 
 use protocol::Refusal;
-use protocol::form::{MOST_QUESTIONS, PLACE_WORDS, RECORD_BYTES, RECORD_WORDS};
+use protocol::form::{MOST_QUESTIONS, PLACE_WORDS, RECORD_WORDS};
 use word_bytes::{Words, loaded, save};
 
 // Four bytes a word.
@@ -19,10 +19,7 @@ const PLACES_WORDS: usize = 384;
 pub fn ask(words: &mut [u8], node: u32, numbers: &[u8], outcomes: &mut [u8]) -> Result<(), Refusal>
     ensures { batch_bytes words.old node numbers.now outcomes.old ≡ record { code = refusal result; bytes = words.new; output = outcomes.new } }
 {
-    if words.len() < RECORD_BYTES {
-        return Err(Refusal::RecordShort);
-    }
-    let mut w = loaded::<RECORD_WORDS>(&words[..]);
+    let mut w = loaded::<RECORD_WORDS>(words)?;
     wellformed::questions(&w)?;
     let asked = Words::<MOST_QUESTIONS>::of(numbers).ok_or(Refusal::RouteLong)?;
     let numbers = asked.as_slice();

@@ -23,14 +23,8 @@ pub fn step(
     if out.len() < 20 {
         return Err(Refusal::OutputShort);
     }
-    if words.len() < RECORD_BYTES {
-        return Err(Refusal::RecordShort);
-    }
-    if book.len() < BOOK_BYTES {
-        return Err(Refusal::RecordShort);
-    }
-    let mut w = loaded::<RECORD_WORDS>(&words[..]);
-    let mut k = loaded::<BOOK_WORDS>(&book[..]);
+    let mut w = loaded::<RECORD_WORDS>(words)?;
+    let mut k = loaded::<BOOK_WORDS>(book)?;
     let a = cards::step(&mut w, &mut k, operation, x, y)?;
     save(words, &w);
     save(book, &k);
@@ -48,14 +42,8 @@ pub fn offer(
 ) -> Result<(), Refusal>
     ensures { offer_bytes words.now book.old machine revision price ≡ record { code = refusal result; book = book.new } }
 {
-    if words.len() < RECORD_BYTES {
-        return Err(Refusal::RecordShort);
-    }
-    if book.len() < BOOK_BYTES {
-        return Err(Refusal::RecordShort);
-    }
-    let w = loaded::<RECORD_WORDS>(words);
-    let mut k = loaded::<BOOK_WORDS>(&book[..]);
+    let w = loaded::<RECORD_WORDS>(words)?;
+    let mut k = loaded::<BOOK_WORDS>(book)?;
     card_offers::offer(&w, &mut k, machine, revision, price)?;
     save(book, &k);
     Ok(())

@@ -10,7 +10,7 @@ ghost use Rattle.protocol.specs.Bytes.{step_bytes, owner_bytes};
 
 pub use crate::foundings::fresh;
 use protocol::Refusal;
-use protocol::form::{ANSWER_WORDS, RECORD_BYTES, RECORD_WORDS};
+use protocol::form::{ANSWER_WORDS, RECORD_WORDS};
 use word_bytes::{loaded, save};
 
 // One command on the record in the lent bytes. Only the record is loaded, since a step looks at nothing behind it.
@@ -20,10 +20,7 @@ pub fn step(words: &mut [u8], operation: u32, x: u32, y: u32, out: &mut [u8]) ->
     if out.len() < 20 {
         return Err(Refusal::OutputShort);
     }
-    if words.len() < RECORD_BYTES {
-        return Err(Refusal::RecordShort);
-    }
-    let mut w = loaded::<RECORD_WORDS>(&words[..]);
+    let mut w = loaded::<RECORD_WORDS>(words)?;
     let a = steps::step(&mut w, operation, x, y)?;
     save(words, &w);
     save(out, &<[u32; ANSWER_WORDS]>::from(a));
@@ -37,10 +34,7 @@ pub fn owner(words: &[u8], number: u32, out: &mut [u8]) -> Result<(), Refusal>
     if out.len() < 4 {
         return Err(Refusal::OutputShort);
     }
-    if words.len() < RECORD_BYTES {
-        return Err(Refusal::RecordShort);
-    }
-    let w = loaded::<RECORD_WORDS>(words);
+    let w = loaded::<RECORD_WORDS>(words)?;
     let hub = queries::owner(&w, number)?;
     save(out, &[hub]);
     Ok(())

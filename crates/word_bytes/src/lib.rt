@@ -3,11 +3,13 @@
 
 mod counted;
 
-ghost use Rattle.std.specs.Prelude.{◌≡◌, ◌+◌, ◌*◌, ◌≤◌, length};
+ghost use Rattle.std.specs.Prelude.{◌≡◌, ◌+◌, ◌*◌, ◌≤◌, ◌<◌, length, MatchResult};
+ghost use Rattle.protocol.specs.declared.refusal.Refusal.TheVariants.{RecordShort};
 ghost use Rattle.protocol.specs.Bytes.{over};
 ghost use Rattle.word_bytes.specs.Carry.{word_at, first_words};
 
 pub use counted::Words;
+use protocol::Refusal;
 
 // Word i, lowest byte first.
 fn word_at(b: &[u8], i: usize) -> u32
@@ -28,14 +30,16 @@ pub fn load(b: &[u8], w: &mut [u32])
     }
 }
 
-// The first N words, as a record or its cards are, and nothing that is behind them.
-pub fn loaded<const N: usize>(b: &[u8]) -> [u32; N]
-    requires { 4 * N ≤ length b.now }
-    ensures { result ≡ first_words b.now N }
+// The first N words, as a record or its cards are, if there are so many (question 1), and nothing that is behind them.
+pub fn loaded<const N: usize>(b: &[u8]) -> Result<[u32; N], Refusal>
+    ensures { MatchResult result (λ w. (w ≡ first_words b.now N) × (4 * N ≤ length b.now)) (λ refusal. (refusal ≡ RecordShort) × (length b.now < 4 * N)) }
 {
+    if b.len() / 4 < N {
+        return Err(Refusal::RecordShort);
+    }
     let mut w = [0u32; N];
     load(b, &mut w);
-    w
+    Ok(w)
 }
 
 // All words, from the first byte on. The bytes behind them stay.

@@ -11,21 +11,24 @@ pub returns-then-out-lt4 : goal.returns-then-out-lt4
 unfolding refusal
 returns-then-out-lt4 c = owner_17 c.args.words.now c.args.out.now c.args.number (omega arith)
 
-pub returns-then-words-lt-RECORD_BYTES : goal.returns-then-words-lt-RECORD_BYTES
+pub returns-in_err-w : goal.returns-in_err-w
 unfolding refusal
-returns-then-words-lt-RECORD_BYTES c = owner_1 c.args.words.now c.args.out.now c.args.number (omega arith) (omega arith)
+returns-in_err-w c =
+    let a = c.args in
+    let refused = err_from_is_err_and c.from_residual.result c.from_residual.ensures.1 in
+    owner_1 a.words.now a.out.now a.number (omega arith) (omega (arith, c.in_err-w.ensures.1)) ∙ rw (refused.1, refused.2, c.in_err-w.ensures.0) refl
 
 pub returns-in_err-hub : goal.returns-in_err-hub
 unfolding told refusal number_words over
 returns-in_err-hub c =
     let a = c.args in
-    let refused = err_from_is_err_and c.from_residual.result c.from_residual.ensures.1 in
-    owner_rest a.words.now a.out.now a.number (omega arith) (omega arith)
-    ∙ rw (← c.loaded-w.ensures, ← c.in_err-hub.ensures, refused.1, refused.2) refl
+    let refused = err_from_is_err_and c.from_residual-in_err-hub.result c.from_residual-in_err-hub.ensures.1 in
+    owner_rest a.words.now a.out.now a.number (omega arith) (omega (arith, c.in_ok-w.ensures.1))
+    ∙ rw (← c.in_ok-w.ensures.0, ← c.in_err-hub.ensures, refused.1, refused.2) refl
 
 pub returns : goal.returns
 unfolding told refusal number_words
 returns c =
     let a = c.args in
-    owner_rest a.words.now a.out.now a.number (omega arith) (omega arith)
-    ∙ rw (← c.loaded-w.ensures, ← c.in_ok-hub.ensures, c.save.ensures) refl
+    owner_rest a.words.now a.out.now a.number (omega arith) (omega (arith, c.in_ok-w.ensures.1))
+    ∙ rw (← c.in_ok-w.ensures.0, ← c.in_ok-hub.ensures, c.save.ensures) refl

@@ -14,9 +14,12 @@ pub returns-then-out-lt20 : goal.returns-then-out-lt20
 unfolding refusal
 returns-then-out-lt20 c = let a = c.args in step_17 a.words.now a.out.now a.operation a.x a.y (omega arith)
 
-pub returns-then-words-lt-RECORD_BYTES : goal.returns-then-words-lt-RECORD_BYTES
+pub returns-in_err-w : goal.returns-in_err-w
 unfolding refusal
-returns-then-words-lt-RECORD_BYTES c = let a = c.args in step_1 a.words.now a.out.now a.operation a.x a.y (omega arith) (omega arith)
+returns-in_err-w c =
+    let a = c.args in
+    let refused = err_from_is_err_and c.from_residual.result c.from_residual.ensures.1 in
+    step_1 a.words.now a.out.now a.operation a.x a.y (omega arith) (omega (arith, c.in_err-w.ensures.1)) ∙ rw (refused.1, refused.2, c.in_err-w.ensures.0) refl
 
 pub returns-in_err-a : goal.returns-in_err-a
 unfolding carried refusal outcome_words bytes_after over
@@ -24,8 +27,8 @@ returns-in_err-a c =
     let a = c.args in
     let b = a.words.now in
     let bytes : All Byte b = all_at Byte b 0 (λ i h. omega (arith, c.slice_known-1.given i)) in
-    let refused = err_from_is_err_and c.from_residual.result c.from_residual.ensures.1 in
-    step_rest b a.out.now a.operation a.x a.y bytes (omega arith) (omega arith) _ _ (search rules) (rw c.loaded-w.ensures at c.in_err-a.ensures)
+    let refused = err_from_is_err_and c.from_residual-in_err-a.result c.from_residual-in_err-a.ensures.1 in
+    step_rest b a.out.now a.operation a.x a.y bytes (omega arith) (omega (arith, c.in_ok-w.ensures.1)) _ _ (search rules) (rw c.in_ok-w.ensures.0 at c.in_err-a.ensures)
     ∙ rw (refused.1, refused.2) refl
 
 pub returns : goal.returns
@@ -34,5 +37,5 @@ returns c =
     let a = c.args in
     let b = a.words.now in
     let bytes : All Byte b = all_at Byte b 0 (λ i h. omega (arith, c.slice_known-1.given i)) in
-    step_rest b a.out.now a.operation a.x a.y bytes (omega arith) (omega arith) _ _ (search rules) (rw c.loaded-w.ensures at c.in_ok-a.ensures)
+    step_rest b a.out.now a.operation a.x a.y bytes (omega arith) (omega (arith, c.in_ok-w.ensures.1)) _ _ (search rules) (rw c.in_ok-w.ensures.0 at c.in_ok-a.ensures)
     ∙ simp (c.save.ensures, c.from.ensures, c.save-2.ensures)

@@ -1,11 +1,11 @@
 -- `fresh` meets its contract: a fresh call on other words is one on the lent words, and writes all of both slices. Assumes nothing.
-use mathlib.Core.Path.{◌≡◌, ap, ◌∙◌, refl}
+use mathlib.Core.Path.{ap, ◌∙◌, refl}
 use Rattle.std.proofs.Common.{sym}
 use Rattle.std.proofs.lemmas.Result.{err_from_is_err_and}
 use Rattle.protocol.specs.Answers.{refusal}
-use Prim.Native.Nat.{ℕ, ◌/◌}
+use Prim.Native.Nat.{ℕ}
 use native.Mathlib.Omega.{arith}
-use lib.ListN.{length, replicate, length-replicate}
+use lib.ListN.{replicate, length-replicate}
 use Rattle.protocol.specs.declared.refusal.Refusal.TheVariants.{IdentifierCount}
 use Rattle.protocol.specs.Fresh.{founder_of}
 use Rattle.protocol.specs.Bytes.{words_of, bytes_after}

@@ -1,9 +1,9 @@
 -- `fresh` meets its contract: a fresh call on other words is one on the lent words, and writing the record is writing all of them. Assumes nothing.
-use mathlib.Core.Path.{◌≡◌, ap, ◌∙◌, refl}
+use mathlib.Core.Path.{ap, ◌∙◌, refl}
 use Rattle.std.proofs.Common.{sym}
 use Rattle.protocol.specs.Answers.{refusal}
-use Prim.Native.Nat.{ℕ, ◌/◌}
-use lib.ListN.{length, replicate, length-replicate}
+use Prim.Native.Nat.{ℕ}
+use lib.ListN.{replicate, length-replicate}
 use native.Mathlib.Omega.{arith}
 use Rattle.lists.specs.Basics.{All}
 use Rattle.lists.specs.Members.{all_at}
