@@ -1,5 +1,5 @@
 // Who owns a machine among the members, by how far each node's numbers reach back.
-ghost use Rattle.std.specs.Prelude.{◌≡◌, ℕ, ◌≤◌, ◌<◌, nat_eq, length, get_or};
+ghost use Rattle.std.specs.Prelude.{◌≡◌, ℕ, ◌≤◌, ◌<◌, nat_eq, length, get_or, MatchOption};
 ghost use Rattle.lists.specs.Basics.{when◌then◌else◌};
 ghost use Rattle.protocol.specs.Record.{most_nodes, read};
 ghost use Rattle.protocol.specs.WellFormed.{identifiers};
@@ -46,18 +46,17 @@ pub fn reach(names: &[u32], marks: &[u32], h: usize) -> u32
     least(names, marks, |name| gap(name, id))
 }
 
-// The nearest marked node.
-pub fn nearest(names: &[u32], marks: &[u32], v: u32) -> u32
+// The nearest marked node; `None` where no node is marked.
+pub fn nearest(names: &[u32], marks: &[u32], v: u32) -> Option<u32>
     requires { (length marks.now ≤ length names.now) × (length marks.now ≤ most_nodes) }
-    ensures { result ≡ nearest_spec names.now marks.now v }
+    ensures { MatchOption result (nearest_spec names.now marks.now v ≡ length marks.now) (λ m. (m ≡ nearest_spec names.now marks.now v) × (m < length marks.now)) }
 {
     let d = least(names, marks, |name| distance(v, name));
-    for m in 0..marks.len() {
-        if (marks[m] == 1) & (distance(v, names[m]) <= d) {
-            return m as u32;
-        }
-    }
-    marks.len() as u32
+    let near = marks
+        .iter()
+        .zip(names)
+        .position(|(mark, name)| (*mark == 1) & (distance(v, *name) <= d))?;
+    Some(near as u32)
 }
 
 // The identifiers of the record's nodes, side by side; 0 behind them.

@@ -66,7 +66,8 @@ fn put(k: &mut [u32], c: Card) -> Result<Answer, Refusal>
     Err(Refusal::CardsFull)
 }
 
-// A card offered to the ring of the record: its hub is filled in. The record is only read, and a refusal changes no word of the cards.
+// A card offered to the ring of the record: its hub is filled in. The record is only read, and a refusal changes no word of the cards. (There is a
+// nearest hub: a slice that passes has a member.)
 pub fn offer(
     w: &[u32],
     k: &mut [u32],
@@ -77,7 +78,7 @@ pub fn offer(
     ensures { offer_call w.now k.old machine revision price ≡ record { outcome = result; slice = w.now; cards = k.new } }
 {
     let names = checked_names(w, k)?;
-    let hub = nearest(&names, &k[MARKS_AT..CARDS_AT], machine);
+    let hub = nearest(&names, &k[MARKS_AT..CARDS_AT], machine).unwrap();
     put(
         k,
         Card {

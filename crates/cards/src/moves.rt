@@ -48,6 +48,8 @@ pub(crate) fn leave(k: &mut [u32], names: &[u32; 64], h: u32)
     }
     let far = reach(names, &k[MARKS_AT..CARDS_AT], node);
     k[MARKS_AT + node] = 0;
-    let next = nearest(names, &k[MARKS_AT..CARDS_AT], id);
+    let Some(next) = nearest(names, &k[MARKS_AT..CARDS_AT], id) else {
+        return;
+    };
     hand_over(k, id, far, next);
 }
