@@ -1,5 +1,5 @@
 -- Who owns a machine, as the code finds it: by tables of identifiers and of each hub's reach. Assumes nothing.
-use Rattle.std.specs.Prelude.{◌≡◌, refl, ◌⊎◌, Option, Some, None, MatchOption, IsSome, List, zip, min, nat_le, nat_lt, nat_eq, length, replicate}
+use Rattle.std.specs.Prelude.{◌≡◌, refl, ◌⊎◌, Option, Some, None, MatchOption, IsSome, List, zip, fold, take, min, nat_le, nat_lt, nat_eq, length, replicate}
 use Rattle.std.proofs.Common.{sym, ◌∙◌, ap, ap₂, subst, inl, inr, mod-eq_of_lt, arith, leb→le, le→leb, eqb→eq}
 use mathlib.Core.Bool.{Bool, true, false, ◌&&◌}
 use Prim.Native.Nat.{ℕ, zero, suc, ◌+◌, ◌%◌, ◌≤◌, ◌<◌}
@@ -8,9 +8,10 @@ use Rattle.std.proofs.Math.Dec.{nleb→lt}
 use Rattle.std.proofs.Math.ListN.{get_or, get_or-map}
 use Rattle.std.proofs.lemmas.List.{length-map}
 use Rattle.std.specs.List.{position_or_len}
-use Rattle.std.proofs.lemmas.List.Sums.{position_or_len_is}
+use Rattle.std.proofs.lemmas.List.Sums.{position_or_len_is, fold_more}
+use Rattle.std.proofs.Math.Seq.{take-length}
 use Rattle.std.proofs.lemmas.Slice.Zip.{get_or-zip, length-zip}
-use Rattle.std.proofs.Common.{cond, lt-ltb, le-ltb}
+use Rattle.std.proofs.Common.{cond, lt-ltb, le-ltb, add-one}
 use Rattle.clockwise.specs.Clockwise.{dist}
 use Rattle.clockwise.specs.Laws.{dist_lt}
 use Rattle.lists.specs.Basics.{when◌then◌else◌, first, every, table}
@@ -26,7 +27,7 @@ use Rattle.layout.specs.Words.{row_of_read, row_beyond, count_of_read}
 use Rattle.layout.specs.Form.{Form}
 use Rattle.layout.specs.Owners.{Names, owner_is}
 use Rattle.cardlayout.specs.Marks.{home_is, Marked, mem_marked, marked_mem}
-use Rattle.cardlayout.specs.Reach.{top, gap, least, least_more, least_says, gap_to, reach, reach_owns, owns_reach, owner_of}
+use Rattle.cardlayout.specs.Reach.{top, gap, least, least_none, least_more, least_says, gap_to, reach, reach_owns, owns_reach, owner_of}
 use Rattle.cardlayout.specs.Sound.{MarksForm}
 
 -- The identifiers of the record, copied side by side.
@@ -255,6 +256,26 @@ lesser a b = choose (λ z. min a b ≡ z) (nat_le a b) a b (λ t. let l = leb→
 pub least_next : (f : ℕ → ℕ) (n a b : ℕ) → a ≡ least f n → b ≡ f n → min a b ≡ least f (n + 1)
 least_next f n a b p q =
     lesser a b ∙ ap (λ z. when nat_le a z then a else z) q ∙ ap (λ z. when nat_le z (f n) then z else f n) p ∙ sym (least_more f n)
+
+-- the least over marks and identifiers side by side
+pub least_pairs : (h : ℕ → ℕ) (marks names : List ℕ) → length marks ≤ length names
+    → fold (λ a p. min a (when nat_eq p.0 1 then h p.1 else top)) top (zip marks names) ≡ least (λ m. when nat_eq (get_or marks m 0) 1 then h (get_or names m 0) else top) (length marks)
+least_pairs h marks names long =
+    ap (fold by top) (sym (take-length (zip marks names)) ∙ ap (λ n. take n (zip marks names)) size) ∙ up (length marks) (omega arith)
+  where
+    by : ℕ → ℕ × ℕ → ℕ
+    by a p = min a (when nat_eq p.0 1 then h p.1 else top)
+
+    size : length (zip marks names) ≡ length marks
+    size = omega (arith, length-zip marks names)
+
+    up : (n : ℕ) → n ≤ length marks → fold by top (take n (zip marks names)) ≡ least (λ m. when nat_eq (get_or marks m 0) 1 then h (get_or names m 0) else top) n
+    up zero l = sym (least_none _)
+    up (suc n) l =
+        ap (λ z. fold by top (take z (zip marks names))) (sym (add-one n))
+        ∙ fold_more by top (zip marks names) n (0, 0) (omega (arith, size))
+        ∙ least_next (λ m. when nat_eq (get_or marks m 0) 1 then h (get_or names m 0) else top) n _ _ (up n (omega arith)) (ap (λ p. when nat_eq p.0 1 then h p.1 else top) (get_or-zip marks names n (0, 0) (omega arith) (omega arith)))
+        ∙ ap (least (λ m. when nat_eq (get_or marks m 0) 1 then h (get_or names m 0) else top)) (add-one n)
 
 pub get_or_zeros : (n i : ℕ) → ◌≡◌ {A = ℕ} (get_or (replicate n 0) i 0) 0
 get_or_zeros zero i = refl

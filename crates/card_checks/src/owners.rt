@@ -28,13 +28,11 @@ pub(crate) fn gap(a: u32, b: u32) -> u32
 fn least<F: Fn(u32) -> u32>(names: &[u32], marks: &[u32], far: F) -> u32
     requires callable { F.IsAlwaysCallable far }
     requires long { length marks.now ≤ length names.now }
-    ensures { (h : ℕ → ℕ) → ((x y : ℕ) → x < 4294967296 → F.post far x y → y ≡ h x) → result ≡ least (λ m. when nat_eq (get_or marks.now m 0) 1 then h (get_or names.now m 0) else top) (length marks.now) }
+    ensures { (h : ℕ → ℕ) → ((x y : ℕ) → F.post far x y → y ≡ h x) → result ≡ least (λ m. when nat_eq (get_or marks.now m 0) 1 then h (get_or names.now m 0) else top) (length marks.now) }
 {
-    let mut best = TOP;
-    for m in 0..marks.len() {
-        best = best.min(pick(marks[m] == 1, far(names[m]), TOP));
-    }
-    best
+    marks.iter().zip(names).fold(TOP, |best, (mark, name)| {
+        best.min(pick(*mark == 1, far(*name), TOP))
+    })
 }
 
 // How far node h's numbers reach back among the marked nodes.

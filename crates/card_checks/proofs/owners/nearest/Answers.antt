@@ -14,7 +14,7 @@ returns-in_err-near c = let a = c.args in
     let names = a.names.now in
     let marks = a.marks.now in
     let d = c.least-d in
-    let close : d.result ≡ closest names marks a.v = d.ensures (λ x. dist round a.v x) (λ x y u p. search rules) in
+    let close : d.result ≡ closest names marks a.v = d.ensures (λ x. dist round a.v x) (λ x y p. search rules) in
     let law = nearest_law names marks a.v c.requires.0 d.result close c.position.result
     (position_from_yields_List (by_side a.v d.result) c.position.new.self _ c.position.result c.position.ensures.ran (YieldsList-from_zip (YieldsList-from_slice marks (cc)) (YieldsList-from_slice names (cc))) (λ x b q k. search rules)) in
     subst (Nearest names marks a.v) (c.in_err-near.was ∙ sym c.from_residual.ensures) law
@@ -25,7 +25,7 @@ returns c = let a = c.args in
     let names = a.names.now in
     let marks = a.marks.now in
     let d = c.least-d in
-    let close : d.result ≡ closest names marks a.v = d.ensures (λ x. dist round a.v x) (λ x y u p. search rules) in
+    let close : d.result ≡ closest names marks a.v = d.ensures (λ x. dist round a.v x) (λ x y p. search rules) in
     let law = nearest_law names marks a.v c.requires.0 d.result close c.position.result
     (position_from_yields_List (by_side a.v d.result) c.position.new.self _ c.position.result c.position.ensures.ran (YieldsList-from_zip (YieldsList-from_slice marks (cc)) (YieldsList-from_slice names (cc))) (λ x b q k. search rules)) in
     subst (Nearest names marks a.v) c.in_ok-near.was law
