@@ -14,12 +14,7 @@ fn find_card(k: &[u32], machine: u32) -> Option<u32>
     requires { (cards_in k.now ≤ most_cards) × (book_size ≤ length k.now) }
     ensures { MatchOption result (first (λ j. nat_eq (get_or k.now (card_start j) 0) machine) (cards_in k.now) ≡ cards_in k.now) (λ j. (j ≡ first (λ i. nat_eq (get_or k.now (card_start i) 0) machine) (cards_in k.now)) × (j < cards_in k.now)) }
 {
-    for j in 0..k[0] {
-        if k[CARDS_AT + CARD_WORDS * (j as usize)] == machine {
-            return Some(j);
-        }
-    }
-    None
+    (0..k[0]).find(|j| k[CARDS_AT + CARD_WORDS * (*j as usize)] == machine)
 }
 
 fn put_card(k: &mut [u32], j: u32, c: Card)
