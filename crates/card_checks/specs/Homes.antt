@@ -7,7 +7,10 @@ use Rattle.std.proofs.Math.Decide.{dec_lt}
 use Rattle.std.proofs.Math.Dec.{nleb→lt}
 use Rattle.std.proofs.Math.ListN.{get_or, get_or-map}
 use Rattle.std.proofs.lemmas.List.{length-map}
-use Rattle.std.specs.List.{position_or_len}
+use Rattle.std.specs.List.{position_or_len, range_with_len}
+use Rattle.std.proofs.lemmas.List.FromFn.{length-range_with_len, get_or-range_with_len}
+use Rattle.wellformed.specs.Laws.{fold_every}
+use Rattle.lists.specs.Blocks.{table_of}
 use Rattle.std.proofs.lemmas.List.Sums.{position_or_len_is, fold_more}
 use Rattle.std.proofs.Math.Seq.{take-length}
 use Rattle.std.proofs.lemmas.Slice.Zip.{get_or-zip, length-zip}
@@ -19,7 +22,7 @@ use Rattle.lists.specs.Choice.{choose, passes}
 use Rattle.lists.specs.Members.{distinct_apart}
 use Rattle.lists.specs.Search.{Located, Missed, search_ends}
 use Rattle.lists.specs.Tests.{says_and, says_as, says_same, says_eq, says_lt, says_le, →eqb, and_left, and_right, and_both, T_true, true_T}
-use Rattle.lists.specs.Merge.{every_none, every_last}
+use Rattle.lists.specs.Merge.{every_none, every_more, every_last}
 use Rattle.protocol.specs.Record.{round, most_nodes, row_start, count_in, outside, row, read}
 use Rattle.protocol.specs.WellFormed.{identifiers}
 use Rattle.protocol.specs.Cards.{card_start, card_from, marked, home}
@@ -237,6 +240,21 @@ unfolding table
 every_same p q g zero e = every_none p g ∙ sym (every_none q g)
 every_same p q g (suc n) e =
     every_last p (table n g) (g n) ∙ ap₂ (λ a b. a && b) (every_same p q g n e) (e n) ∙ sym (every_last q (table n g) (g n))
+
+-- a test of the first n places, one after the other
+pub every_place : {A : Type 0} (t : ℕ → Bool) (p : A → Bool) (g : ℕ → A) (n : ℕ) → ((j : ℕ) → t j ≡ p (g j)) → fold (λ ok j. ok && t j) true (range_with_len 0 n) ≡ every p (table n g)
+every_place t p g n e = fold_every t true (range_with_len 0 n) ∙ ap (every t) (sym places) ∙ up n
+  where
+    places : table n (λ j. j) ≡ range_with_len 0 n
+    places =
+        table_of (range_with_len 0 n) 0 (λ j. j) n (omega (arith, length-range_with_len 0 n)) (λ i l. omega (arith, get_or-range_with_len 0 n i 0 l))
+        ∙ ap (λ z. take z (range_with_len 0 n)) (sym (length-range_with_len 0 n)) ∙ take-length (range_with_len 0 n)
+
+    up : (m : ℕ) → every t (table m (λ j. j)) ≡ every p (table m g)
+    up zero = every_none t (λ j. j) ∙ sym (every_none p g)
+    up (suc m) =
+        ap (λ z. every t (table z (λ j. j))) (sym (add-one m)) ∙ every_more t (λ j. j) m ∙ ap₂ (λ a b. a && b) (up m) (e m)
+        ∙ sym (every_more p g m) ∙ ap (λ z. every p (table z g)) (add-one m)
 
 -- Every card is at home.
 pub homes_law : (ids names marks : List ℕ) → Names ids → Copied names ids → MarksForm (length ids) marks → length marks ≡ most_nodes

@@ -51,10 +51,6 @@ impl Members<'_> {
     pub(crate) fn all_home(&self, reaches: &[u32; 64], cards: &Cards) -> bool
         ensures { result ≡ every (λ c. at_home self.now.names.now self.now.marks.now reaches.now c.machine c.hub) (table cards.now.count (λ j. card_from cards.now.words.now (card_start j))) }
     {
-        let mut ok = true;
-        for j in 0..cards.count {
-            ok &= self.at_home(reaches, cards, j);
-        }
-        ok
+        (0..cards.count).fold(true, |ok, j| ok & self.at_home(reaches, cards, j))
     }
 }
