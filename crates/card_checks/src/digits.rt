@@ -86,11 +86,10 @@ impl Groups {
     fn all_lead(&self) -> bool
         ensures { result ≡ nat_eq (following self.now.count (names self.now.parts)) 0 }
     {
-        let mut ok = true;
-        for (i, part) in self.parts[..self.count].iter().enumerate() {
-            ok &= part.group == (i + 1) as u32;
-        }
-        ok
+        self.parts[..self.count]
+            .iter()
+            .enumerate()
+            .fold(true, |ok, (i, part)| ok & (part.group as usize == i + 1))
     }
 
     // Passes, until each card is the first of its group, but six at most: then the cards of a group have the same machine.
