@@ -38,7 +38,7 @@ struct Part {
     group: u32,
 }
 
-// The first cards of a slice, in groups.
+// The first cards of a slice, in groups. (An array and how much of it is in use, since nothing here may allocate.)
 #[derive(Clone, Copy)]
 struct Groups {
     count: usize,
