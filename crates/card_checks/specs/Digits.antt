@@ -1,6 +1,12 @@
 -- Do the machines differ? Cards are parted into groups, by one digit of four bits more in each pass. For every list of numbers f. Assumes nothing.
-use Rattle.std.specs.Prelude.{◌≡◌, refl, ◌≢◌, Bool, true, false, ◌&&◌, List, get_or, length, set}
-use Rattle.std.proofs.Math.Path.{sym, ap}
+use Rattle.std.specs.Prelude.{◌≡◌, refl, ◌≢◌, Bool, true, false, ◌&&◌, List, map, fold, take, get_or, length, set}
+use Rattle.std.specs.List.{enumerate_from}
+use Rattle.std.proofs.lemmas.List.{get_or-map, map-set, length-map, length-take, get_or-take}
+use Rattle.std.proofs.lemmas.List.FromFn.{length-enumerate_from, get_or-enumerate_from}
+use Rattle.std.proofs.Math.Nat.{zero-add}
+use Rattle.std.proofs.Math.Seq.{take-length}
+use Rattle.card_checks.specs.declared.digits.Part.{Part}
+use Rattle.std.proofs.Math.Path.{sym, ap, subst}
 use Rattle.std.proofs.Common.{◌∙◌, ap₂, true≢false, add-one, length-set, ext_get_or, get_or-set_same, get_or-set_other}
 use Prim.Native.Nat.{ℕ, zero, suc, ◌+◌, ◌-◌, ◌*◌, ◌/◌, ◌%◌, ◌^◌, ◌≤◌, ◌<◌}
 use Rattle.std.proofs.Math.Decide.{dec_lt, ℕ_discrete}
@@ -8,11 +14,13 @@ use Rattle.std.proofs.Math.Numerals.{unary_clauses}
 use native.Mathlib.Omega.{arith}
 use Rattle.std.proofs.Common.{nat_eq}
 use Rattle.std.proofs.Math.Dec.{eqb→eq, T_not}
-use Rattle.lists.specs.Basics.{when◌then◌else◌, distinct, table}
+use Rattle.lists.specs.Basics.{when◌then◌else◌, every, distinct, table}
+use Rattle.lists.specs.Blocks.{table_of}
+use Rattle.wellformed.specs.Laws.{fold_every}
 use Rattle.lists.specs.Choice.{choose, passes}
 use Rattle.lists.specs.Members.{filled}
 use Rattle.lists.specs.Tests.{→eqb}
-use Rattle.lists.specs.Merge.{merged, merged_each, each_merged, distinct_none}
+use Rattle.lists.specs.Merge.{merged, merged_each, each_merged, merged_test, failure_test, distinct_none}
 use Rattle.card_checks.specs.Buckets.{unmet, unmet_yes, unmet_no, distinct_more, distinct_fails}
 
 -- one more than the first place below n at which s is b, or 0
@@ -89,6 +97,35 @@ set_own l i d h = ext_get_or d (set l i (get_or l i d)) l (length-set l i (get_o
       | no e ↦ get_or-set_other l i j (get_or l i d) d e
     ])
 
+-- What is left of the cards' machines, and the names of their groups.
+abbrev pub lefts : List Part → List ℕ
+lefts parts = map (λ p. p.left) parts
+
+abbrev pub names : List Part → List ℕ
+names parts = map (λ p. p.group) parts
+
+-- one of them, and one written
+pub lefts_at : (parts : List Part) (i : ℕ) → i < length parts → (d : Part) → (get_or parts i d).left ≡ get_or (lefts parts) i 0
+lefts_at parts i l d = sym (get_or-map (λ p. p.left) parts i d 0 l)
+
+pub names_at : (parts : List Part) (i : ℕ) → i < length parts → (d : Part) → (get_or parts i d).group ≡ get_or (names parts) i 0
+names_at parts i l d = sym (get_or-map (λ p. p.group) parts i d 0 l)
+
+pub lefts_set : (parts : List Part) (i : ℕ) (p : Part) → lefts (set parts i p) ≡ set (lefts parts) i p.left
+lefts_set parts i p = map-set (λ q. q.left) parts i p
+
+pub names_set : (parts : List Part) (i : ℕ) (p : Part) → names (set parts i p) ≡ set (names parts) i p.group
+names_set parts i p = map-set (λ q. q.group) parts i p
+
+-- the first i of them, and one more
+pub lefts_filled : (parts : List Part) (i : ℕ) (p : Part) (g : ℕ → ℕ) → i < length parts → p.left ≡ g i → ((k : ℕ) → k < i → get_or (lefts parts) k 0 ≡ g k)
+    → (k : ℕ) → k < i + 1 → get_or (lefts (set parts i p)) k 0 ≡ g k
+lefts_filled parts i p g l e f k u = ap (λ z. get_or z k 0) (lefts_set parts i p) ∙ filled (lefts parts) i p.left 0 g (omega (arith, length-map parts (λ q. q.left))) e f k u
+
+pub names_filled : (parts : List Part) (i : ℕ) (p : Part) (g : ℕ → ℕ) → i < length parts → p.group ≡ g i → ((k : ℕ) → k < i → get_or (names parts) k 0 ≡ g k)
+    → (k : ℕ) → k < i + 1 → get_or (names (set parts i p)) k 0 ≡ g k
+names_filled parts i p g l e f k u = ap (λ z. get_or z k 0) (names_set parts i p) ∙ filled (names parts) i p.group 0 g (omega (arith, length-map parts (λ q. q.group))) e f k u
+
 -- A slot for each group, from 0 to 512, and each digit.
 abbrev pub slot_count : ℕ
 slot_count = 8208
@@ -160,6 +197,30 @@ module _ (m : ℕ) (rest groups : List ℕ) where
 
   pub parting_all : (i : ℕ) (rest' groups' slots : List ℕ) → Parting m i rest groups rest' groups' slots → i ≡ m → Parted m rest groups rest' groups'
   parting_all i rest' groups' slots P e = record { groups_are = λ j l. P.groups_are j (omega arith); rest_are = λ j l. P.rest_are j (omega arith) }
+
+-- The same of the parts: card i has a slot, and gets its group.
+module _ (m : ℕ) (old parts : List Part) (slots : List ℕ) (i : ℕ) (P : Parting m i (lefts old) (names old) (lefts parts) (names parts) slots)
+    (l : i < m) (room : i < length parts) (few : (j : ℕ) → j < m → get_or (names old) j 0 ≤ 512) (d : Part) where
+  abbrev slot : ℕ
+  slot = (get_or parts i d).group * 16 + (get_or parts i d).left % 16
+
+  slot_is : slot ≡ get_or (names parts) i 0 * 16 + get_or (lefts parts) i 0 % 16
+  slot_is = ap₂ (λ x y. x * 16 + y % 16) (names_at parts i room d) (lefts_at parts i room d)
+
+  pub part_slot : slot < slot_count
+  part_slot = omega (arith, slot_is, slot_below m (lefts old) (names old) i (lefts parts) (names parts) slots P l few)
+
+  pub part_more : (first : ℕ) → length slots ≡ slot_count → first ≡ (when nat_eq (get_or slots slot 0) 0 then i + 1 else get_or slots slot 0)
+      → (part : Part) → part.left ≡ (get_or parts i d).left / 16 → part.group ≡ first → (slots' : List ℕ) → slots' ≡ set slots slot first
+      → Parting m (i + 1) (lefts old) (names old) (lefts (set parts i part)) (names (set parts i part)) slots'
+  part_more first size e part el eg slots' es =
+      subst (λ z. Parting m (i + 1) (lefts old) (names old) (lefts (set parts i part)) (names (set parts i part)) z) (sym es)
+      (subst (λ z. Parting m (i + 1) (lefts old) (names old) z (names (set parts i part)) (set slots slot first))
+      (sym (lefts_set parts i part ∙ ap (set (lefts parts) i) (el ∙ ap (λ z. z / 16) (lefts_at parts i room d))))
+      (subst (λ z. Parting m (i + 1) (lefts old) (names old) (set (lefts parts) i (get_or (lefts parts) i 0 / 16)) z (set slots slot first))
+      (sym (names_set parts i part ∙ ap (set (names parts) i) eg))
+      (parting_more m (lefts old) (names old) i slot first (lefts parts) (names parts) slots P l
+      (omega (arith, length-map parts (λ p. p.left))) (omega (arith, length-map parts (λ p. p.group))) size part_slot slot_is e)))
 
 -- After a pass a group has the name of its first card, one more than its place.
 pub record Led (m : ℕ) (groups : List ℕ) : Type 0 where
@@ -237,6 +298,30 @@ meets f n i j k l e = distinct_fails f (i + 1) n (distinct_more f i ∙ ap (λ z
 -- How many cards do not lead their groups, as the code tells it.
 abbrev pub following : ℕ → List ℕ → ℕ
 following m groups = merged m (λ i. when nat_eq (get_or groups i 0) (i + 1) then 0 else 1)
+
+-- the same, card by card: does it lead its group?
+abbrev pub leads : ℕ × Part → Bool
+leads p = nat_eq p.1.group (p.0 + 1)
+
+pub following_parts : (parts : List Part) (n : ℕ) → n ≤ length parts → fold (λ ok p. ok && leads p) true (enumerate_from 0 (take n parts)) ≡ nat_eq (following n (names parts)) 0
+following_parts parts n l =
+    fold_every leads true (enumerate_from 0 (take n parts))
+    ∙ ap (every leads) (sym (take-length (enumerate_from 0 (take n parts))) ∙ ap (λ z. take z (enumerate_from 0 (take n parts))) size
+    ∙ sym (table_of (enumerate_from 0 (take n parts)) (0, none) at n (omega (arith, size)) at_is))
+    ∙ sym (merged_test (λ i. when nat_eq (get_or (names parts) i 0) (i + 1) then 0 else 1) leads at n
+    (λ i k. failure_test (nat_eq (get_or (names parts) i 0) (i + 1)) ∙ ap (λ z. nat_eq z (i + 1)) (sym (names_at parts i (omega arith) none))))
+  where
+    none : Part
+    none = record { left = 0; group = 0 }
+
+    at : ℕ → ℕ × Part
+    at i = (i, get_or parts i none)
+
+    size : length (enumerate_from 0 (take n parts)) ≡ n
+    size = length-enumerate_from 0 (take n parts) ∙ omega (arith, length-take n parts)
+
+    at_is : (i : ℕ) → i < n → at i ≡ get_or (enumerate_from 0 (take n parts)) i (0, none)
+    at_is i k = sym (get_or-enumerate_from 0 (take n parts) i (0, none) (omega (arith, length-take n parts)) ∙ ap₂ (λ a b. (a, b)) (zero-add i) (get_or-take n parts i none k))
 
 all_lead : (m : ℕ) (groups : List ℕ) → following m groups ≡ 0 → (i : ℕ) → i < m → get_or groups i 0 ≡ i + 1
 all_lead m groups e i l =

@@ -1,15 +1,15 @@
 -- What the tests of the marks say. Assumes nothing.
-use Rattle.std.specs.Prelude.{◌≡◌, refl, ◌⊎◌, List, [], ◌∷◌, fold, ℕ, suc, ◌+◌, ◌-◌, ◌≤◌, ◌<◌, T, nat_le, nat_lt, nat_eq, length, get_or, set, take, drop}
-use Rattle.std.proofs.Common.{sym, ◌∙◌, ap, inl, inr, arith, eqb→eq, T_not, length-drop, length-take, length-set, get_or-drop, get_or-take, get_or-set_same, get_or-set_other, take-add, drop-drop, drop_at, length-take-le}
+use Rattle.std.specs.Prelude.{◌≡◌, refl, ◌⊎◌, ◌||◌, List, [], ◌∷◌, fold, ℕ, zero, suc, ◌+◌, ◌-◌, ◌≤◌, ◌<◌, nat_le, nat_lt, nat_eq, length, get_or, set, take, drop}
+use Rattle.std.proofs.Common.{sym, ◌∙◌, ap, inl, inr, arith, length-drop, length-take, get_or-drop, get_or-take, take-add, drop-drop, drop_at, length-take-le}
 use mathlib.Core.Bool.{Bool, true, false, not, ◌&&◌}
+use Rattle.std.proofs.Math.Bool.{or-false}
 use Rattle.std.proofs.Math.Decide.{dec_lt, ℕ_discrete}
-use Rattle.std.proofs.Math.Seq.{take-length}
-use Rattle.lists.specs.Basics.{table, when◌then◌else◌, Mem, every}
-use Rattle.lists.specs.Blocks.{table_of}
-use Rattle.lists.specs.Choice.{choose}
+use Rattle.std.specs.List.{enumerate_from}
+use Rattle.std.proofs.Math.Nat.{zero-add}
+use Rattle.std.proofs.Common.{eq-eqb, ne_eqb}
+use Rattle.lists.specs.Basics.{Mem, every}
 use Rattle.lists.specs.Members.{mem_at, place}
-use Rattle.lists.specs.Merge.{merged, merged_test}
-use Rattle.lists.specs.Tests.{says_and, says_as, says_lt, says_le, says_eq, says_not, says_same, says_every, T_true, true_T, →eqb}
+use Rattle.lists.specs.Tests.{says_and, says_as, says_lt, says_le, says_eq, says_not, says_same, says_every, T_true, true_T}
 use Rattle.wellformed.specs.Laws.{fold_every}
 use Rattle.protocol.specs.Record.{most_nodes}
 use Rattle.protocol.specs.Cards.{book_size, marks_in, marked, marks_ok}
@@ -43,12 +43,11 @@ module _ (marks : List ℕ) (bits : (x : ℕ) → Mem x marks → x < 2) where
       go true e = absurd (omega (arith, m.at, (says_every (λ x. nat_eq x 0) (λ x. x ≡ 0) (λ x. says_eq x 0) marks).to (true_T _ e) (get_or marks h 0) (mem_at marks h 0 m.below)))
 
 -- a test for the list's length: whether some hub is marked
-pub any_law : (marks : List ℕ) (r : ℕ) → ((x : ℕ) → Mem x marks → x < 2) → nat_eq r 0 ≡ every (λ x. nat_eq x 0) marks → nat_le 1 (length (marked marks)) ≡ not (nat_eq r 0)
-any_law marks r bits e =
+pub any_law : (marks : List ℕ) → ((x : ℕ) → Mem x marks → x < 2) → nat_le 1 (length (marked marks)) ≡ not (every (λ x. nat_eq x 0) marks)
+any_law marks bits =
     says_same (says_le 1 (length (marked marks)))
     (says_as (says_not (says_as (says_every (λ x. nat_eq x 0) (λ x. x ≡ 0) (λ x. says_eq x 0) marks) (λ z. z) (λ z. z)))
     (λ n. one (none_or_some marks bits) n) (λ l z. none l z))
-    ∙ ap not (sym e)
   where
     one : ((x : ℕ) → Mem x marks → x ≡ 0) ⊎ ((h : ℕ) × Marked marks h) → ¬ ((x : ℕ) → Mem x marks → x ≡ 0) → 1 ≤ length (marked marks)
     one (inl z) n = absurd (n z)
@@ -130,21 +129,37 @@ pub marks_code : (k : List ℕ) (n : ℕ) → n ≤ most_nodes → book_size ≤
 marks_code k n h l b r z eb er ez =
     marks_law n (marks_in k) b r z (eb ∙ fold_every (λ x. nat_lt x 2) true (marks_in k)) er (ez ∙ ap (every (λ x. nat_eq x 0)) (later_marks k n h l))
 
--- the marks of the other hubs, merged
-pub others_law : (marks : List ℕ) (h r : ℕ) → r ≡ merged (length marks) (λ i. when not (nat_eq i h) then get_or marks i 0 else 0)
-    → nat_eq r 0 ≡ every (λ x. nat_eq x 0) (set marks h 0)
-others_law marks h r e =
-    ap (λ z. nat_eq z 0) e
-    ∙ merged_test _ (λ x. nat_eq x 0) (λ i. get_or (set marks h 0) i 0) (length marks)
-    (λ i l. ap (λ z. nat_eq z 0) (one i l))
-    ∙ ap (λ z. every (λ x. nat_eq x 0) (table z (λ i. get_or (set marks h 0) i 0))) (sym (length-set marks h 0))
-    ∙ ap (every (λ x. nat_eq x 0)) (table_of (set marks h 0) 0 (λ i. get_or (set marks h 0) i 0) (length (set marks h 0)) (omega arith) (λ i l. refl) ∙ take-length (set marks h 0))
-  where
-    one : (i : ℕ) → i < length marks → (when not (nat_eq i h) then get_or marks i 0 else 0) ≡ get_or (set marks h 0) i 0
-    one i l = choose (λ z. z ≡ get_or (set marks h 0) i 0) (not (nat_eq i h)) (get_or marks i 0) 0
-        (λ t. sym (get_or-set_other marks h i 0 0 (λ q. T_not (nat_eq i h) t (→eqb i h q))))
-        (λ t. let q = eqb→eq i h (not_not (nat_eq i h) t) in sym (ap (λ z. get_or (set marks h 0) z 0) q ∙ get_or-set_same marks h 0 0 (omega (arith, q))))
-      where
-        not_not : (b : Bool) → T (not (not b)) → T b
-        not_not true t = tt
-        not_not false t = t
+-- a test for another mark than that of hub h, as the code makes it: the one of the node beside its place
+abbrev pub besides : ℕ → Bool → ℕ × ℕ → Bool
+besides h any p = any || not (nat_eq p.0 h) && not (nat_eq p.1 0)
+
+one_more : (any z e : Bool) → ((any || not z) || not e) ≡ (any || not (z && e))
+one_more true z e = refl
+one_more false true e = refl
+one_more false false e = refl
+
+-- of the hubs from n on, where h is before them, and where it is hub n + k
+others_past : (h n : ℕ) (any : Bool) (l : List ℕ) → h < n → fold (besides h) any (enumerate_from n l) ≡ (any || not (every (λ x. nat_eq x 0) l))
+unfolding every
+others_past h n any [] l = sym (or-false any)
+others_past h n any (x ∷ xs) l =
+    ap (λ z. fold (besides h) (any || not z && not (nat_eq x 0)) (enumerate_from (n + 1) xs)) (ne_eqb n h (λ e. omega arith))
+    ∙ others_past h (n + 1) (any || not (nat_eq x 0)) xs (omega arith)
+    ∙ one_more any (nat_eq x 0) (every (λ y. nat_eq y 0) xs)
+
+others_from : (n k : ℕ) (any : Bool) (l : List ℕ) → fold (besides (n + k)) any (enumerate_from n l) ≡ (any || not (every (λ x. nat_eq x 0) (set l k 0)))
+unfolding every
+others_from n k any [] = sym (or-false any)
+others_from n zero any (x ∷ xs) =
+    ap (λ z. fold (besides (n + 0)) (any || not z && not (nat_eq x 0)) (enumerate_from (n + 1) xs)) (eq-eqb n (n + 0) (omega arith))
+    ∙ ap (λ z. fold (besides (n + 0)) z (enumerate_from (n + 1) xs)) (or-false any)
+    ∙ others_past (n + 0) (n + 1) any xs (omega arith)
+others_from n (suc k) any (x ∷ xs) =
+    let e : n + suc k ≡ (n + 1) + k = omega arith in
+    ap (λ z. fold (besides (n + suc k)) (any || not z && not (nat_eq x 0)) (enumerate_from (n + 1) xs)) (ne_eqb n (n + suc k) (λ q. omega arith))
+    ∙ ap (λ z. fold (besides z) (any || not (nat_eq x 0)) (enumerate_from (n + 1) xs)) e
+    ∙ others_from (n + 1) k (any || not (nat_eq x 0)) xs
+    ∙ one_more any (nat_eq x 0) (every (λ y. nat_eq y 0) (set xs k 0))
+
+pub others_law : (marks : List ℕ) (h : ℕ) → fold (besides h) false (enumerate_from 0 marks) ≡ not (every (λ x. nat_eq x 0) (set marks h 0))
+others_law marks h = ap (λ z. fold (besides z) false (enumerate_from 0 marks)) (sym (zero-add h)) ∙ others_from 0 h false marks

@@ -1,5 +1,5 @@
 -- Reaches out of the record: the gaps back to the preds of the members, where these are members too and go round the circle just once. Assumes nothing.
-use Rattle.std.specs.Prelude.{◌≡◌, refl, List, ℕ, ◌+◌, ◌%◌, ◌≤◌, ◌<◌, nat_eq, length, get_or}
+use Rattle.std.specs.Prelude.{◌≡◌, refl, Bool, List, ℕ, ◌+◌, ◌%◌, ◌≤◌, ◌<◌, nat_eq, length, get_or}
 use Rattle.std.proofs.Common.{sym, ◌∙◌, ap₂, subst, mod-lt, arith, eqb→eq}
 use Rattle.std.proofs.Math.Decide.{dec_lt}
 use Rattle.std.proofs.Math.ListN.{get_or-eq_default}
@@ -35,6 +35,10 @@ strange w marks h = when nat_eq (get_or marks h 0) 1 then (when nat_eq (get_or m
 -- What h adds to the circle.
 abbrev pub arc_back : List ℕ → List ℕ → List ℕ → ℕ → ℕ
 arc_back w names marks h = when nat_eq (get_or marks h 0) 1 then gap_back w names h + 1 else 0
+
+-- what a hub adds is at most once round
+pub arc_few : (member : Bool) (far : ℕ) → far < round → (when member then far + 1 else 0) ≤ round
+arc_few member far l = choose (λ z. z ≤ round) member (far + 1) 0 (λ _. omega arith) (λ _. omega arith)
 
 pub preds_law : (ids names marks w reaches : List ℕ) (n : ℕ) → Names ids → Copied names ids → length ids ≡ n → MarksForm n marks → length marks ≡ most_nodes → n ≤ most_nodes
     → ((h : ℕ) → h < n → get_or reaches h 0 ≡ gap_back w names h) → merged n (strange w marks) ≡ 0 → total (arc_back w names marks) n ≡ round

@@ -4,7 +4,7 @@ ghost use Rattle.std.specs.Prelude.{◌≡◌, ℕ, ◌+◌, ◌/◌, ◌%◌, �
 ghost use Rattle.lists.specs.Basics.{when◌then◌else◌, table, distinct};
 ghost use Rattle.protocol.specs.Cards.{most_cards};
 ghost use Rattle.card_checks.specs.Buckets.{machine_of};
-ghost use Rattle.card_checks.specs.Digits.{slot_count, Parted, Grouped, following};
+ghost use Rattle.card_checks.specs.Digits.{slot_count, Parted, Grouped, following, lefts, names};
 
 use crate::cards::Cards;
 
@@ -30,68 +30,74 @@ fn first_come(slots: &mut [u16; SLOTS], slot: usize, i: usize) -> u16
     seen
 }
 
-// The first cards of a slice, in groups: what is left of each card's machine, and the name of its group: the lowest nine bits of its machine, and
-// after a pass one more than the first card of the group.
+// What is left of a card's machine, and the name of the card's group: the lowest nine bits of its machine, and after a pass one more than the first
+// card of the group.
+#[derive(Clone, Copy)]
+struct Part {
+    left: u32,
+    group: u32,
+}
+
+// The first cards of a slice, in groups. (An array and how much of it is in use, since nothing here may allocate.)
 #[derive(Clone, Copy)]
 struct Groups {
     count: usize,
-    rest: [u32; 512],
-    names: [u32; 512],
+    parts: [Part; 512],
     ghost few: { count ≤ most_cards },
 }
 
 impl Groups {
-    // Not inlined: its arrays are not to lie on the stack beside a pass's slots (include/ring.h says how much a call needs).
+    // Not inlined: its array is not to lie on the stack beside a pass's slots (include/ring.h says how much a call needs).
     #[inline(never)]
     fn of(cards: &Cards) -> Groups
-        ensures { (result.count ≡ cards.now.count) × ((j : ℕ) → j < result.count → get_or result.names j 0 ≡ machine_of cards.now.words.now j % 512) × ((j : ℕ) → j < result.count → get_or result.rest j 0 ≡ machine_of cards.now.words.now j / 512) }
+        ensures { (result.count ≡ cards.now.count) × ((j : ℕ) → j < result.count → get_or (names result.parts) j 0 ≡ machine_of cards.now.words.now j % 512) × ((j : ℕ) → j < result.count → get_or (lefts result.parts) j 0 ≡ machine_of cards.now.words.now j / 512) }
     {
-        let mut rest = [0u32; 512];
-        let mut names = [0u32; 512];
+        let mut parts = [Part { left: 0, group: 0 }; 512];
         for j in 0..cards.count {
             let machine = cards.machine(j);
-            names[j] = machine % 512;
-            rest[j] = machine / 512;
+            parts[j] = Part {
+                left: machine / 512,
+                group: machine % 512,
+            };
         }
         Groups {
             count: cards.count,
-            rest,
-            names,
+            parts,
         }
     }
 
     // One pass.
     fn part(&mut self)
-        requires { (j : ℕ) → j < self.old.count → get_or self.old.names j 0 ≤ most_cards }
-        ensures { (self.new.count ≡ self.old.count) × Parted self.old.count self.old.rest self.old.names self.new.rest self.new.names }
+        requires { (j : ℕ) → j < self.old.count → get_or (names self.old.parts) j 0 ≤ most_cards }
+        ensures { (self.new.count ≡ self.old.count) × Parted self.old.count (lefts self.old.parts) (names self.old.parts) (lefts self.new.parts) (names self.new.parts) }
     {
         let mut slots = [0u16; SLOTS];
         for i in 0..self.count {
-            let left = self.rest[i];
-            let slot = (self.names[i] * 16 + left % 16) as usize;
-            let first = first_come(&mut slots, slot, i);
-            self.names[i] = u32::from(first);
-            self.rest[i] = left / 16;
+            let part = self.parts[i];
+            let slot = (part.group * 16 + part.left % 16) as usize;
+            self.parts[i] = Part {
+                left: part.left / 16,
+                group: u32::from(first_come(&mut slots, slot, i)),
+            };
         }
     }
 
     // Whether each card is the first of its group.
     fn all_lead(&self) -> bool
-        ensures { result ≡ nat_eq (following self.now.count self.now.names) 0 }
+        ensures { result ≡ nat_eq (following self.now.count (names self.now.parts)) 0 }
     {
-        let mut ok = true;
-        for i in 0..self.count {
-            ok &= self.names[i] == (i + 1) as u32;
-        }
-        ok
+        self.parts[..self.count]
+            .iter()
+            .enumerate()
+            .fold(true, |ok, (i, part)| ok & (part.group as usize == i + 1))
     }
 
     // Passes, until each card is the first of its group, but six at most: then the cards of a group have the same machine.
     fn part_all(&mut self) -> bool
-        requires { (j : ℕ) → j < self.old.count → get_or self.old.names j 0 ≤ most_cards }
-        ensures { (f : ℕ → ℕ) → Grouped f self.old.count 6 self.old.rest self.old.names → result ≡ distinct (table self.old.count f) }
+        requires { (j : ℕ) → j < self.old.count → get_or (names self.old.parts) j 0 ≤ most_cards }
+        ensures { (f : ℕ → ℕ) → Grouped f self.old.count 6 (lefts self.old.parts) (names self.old.parts) → result ≡ distinct (table self.old.count f) }
     {
-        for pass in 0..MOST_PASSES {
+        for _ in 0..MOST_PASSES {
             self.part();
             if self.all_lead() {
                 return true;

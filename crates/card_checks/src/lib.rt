@@ -14,5 +14,5 @@ mod preds;
 
 pub use checked::checked_names;
 pub use content::book_ok;
-pub use marks::others;
+pub use marks::is_marked_besides;
 pub use owners::{names_of, nearest, reach};

@@ -1,11 +1,9 @@
 // The marks: words 1 to 64, 1 for each member.
-ghost use Rattle.std.specs.Prelude.{◌≡◌, ◌&&◌, true, not, ◌≤◌, nat_lt, nat_eq, fold, length, get_or};
-ghost use Rattle.lists.specs.Basics.{when◌then◌else◌};
-ghost use Rattle.lists.specs.Merge.{merged};
+ghost use Rattle.std.specs.Prelude.{◌≡◌, ◌&&◌, true, not, ◌≤◌, nat_lt, nat_eq, fold, length, set};
+ghost use Rattle.lists.specs.Basics.{every};
 ghost use Rattle.protocol.specs.Record.{most_nodes};
 ghost use Rattle.protocol.specs.Cards.{book_size, marks_in, marks_ok};
 
-use lists::when;
 use protocol::form::{CARDS_AT, MARKS_AT};
 use wellformed::all_zero;
 
@@ -26,13 +24,12 @@ pub(crate) fn marks_ok(k: &[u32], n: u32) -> bool
     all_bits(marks) & !all_zero(marks) & all_zero(&k[end..CARDS_AT])
 }
 
-// 0 where no node but h is marked. (The words are merged, as where they are looked over for zeros; the one caller looks at what was merged.)
-pub fn others(marks: &[u32], h: usize) -> u32
-    ensures { result ≡ merged (length marks.now) (λ i. when not (nat_eq i h) then get_or marks.now i 0 else 0) }
+// Whether a node other than h is marked. (A fold, since `any` would stop at the first.)
+pub fn is_marked_besides(marks: &[u32], h: usize) -> bool
+    ensures { result ≡ not (every (λ x. nat_eq x 0) (set marks.now h 0)) }
 {
-    let mut all: u32 = 0;
-    for (i, mark) in marks.iter().enumerate() {
-        all |= when(i != h, *mark);
-    }
-    all
+    marks
+        .iter()
+        .enumerate()
+        .fold(false, |any, (i, mark)| any | ((i != h) & (*mark != 0)))
 }

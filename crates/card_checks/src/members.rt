@@ -1,4 +1,6 @@
 // The nodes of a record beside their marks: the record's words, identifiers side by side, 0 behind the `count` nodes, and a mark for each member.
+// (All 64 identifiers and marks, and no slices of `count`: six bits of a word are always a place among them, so that the loops look up preds and hubs
+// without a branch that asks whether they are nodes.)
 ghost use Rattle.std.specs.Prelude.{◌≡◌, ℕ, ◌+◌, ◌≤◌, ◌<◌, length, get_or};
 ghost use Rattle.lists.specs.Basics.{every, table};
 ghost use Rattle.protocol.specs.Record.{most_nodes, record_size};
@@ -51,10 +53,6 @@ impl Members<'_> {
     pub(crate) fn all_home(&self, reaches: &[u32; 64], cards: &Cards) -> bool
         ensures { result ≡ every (λ c. at_home self.now.names.now self.now.marks.now reaches.now c.machine c.hub) (table cards.now.count (λ j. card_from cards.now.words.now (card_start j))) }
     {
-        let mut ok = true;
-        for j in 0..cards.count {
-            ok &= self.at_home(reaches, cards, j);
-        }
-        ok
+        (0..cards.count).fold(true, |ok, j| ok & self.at_home(reaches, cards, j))
     }
 }

@@ -1,5 +1,5 @@
 // Who owns a machine among the members, by how far each node's numbers reach back.
-ghost use Rattle.std.specs.Prelude.{◌≡◌, ℕ, ◌≤◌, ◌<◌, nat_eq, length, get_or};
+ghost use Rattle.std.specs.Prelude.{◌≡◌, ℕ, ◌≤◌, ◌<◌, nat_eq, length, get_or, MatchOption};
 ghost use Rattle.lists.specs.Basics.{when◌then◌else◌};
 ghost use Rattle.protocol.specs.Record.{most_nodes, read};
 ghost use Rattle.protocol.specs.WellFormed.{identifiers};
@@ -28,13 +28,11 @@ pub(crate) fn gap(a: u32, b: u32) -> u32
 fn least<F: Fn(u32) -> u32>(names: &[u32], marks: &[u32], far: F) -> u32
     requires callable { F.IsAlwaysCallable far }
     requires long { length marks.now ≤ length names.now }
-    ensures { (h : ℕ → ℕ) → ((x y : ℕ) → x < 4294967296 → F.post far x y → y ≡ h x) → result ≡ least (λ m. when nat_eq (get_or marks.now m 0) 1 then h (get_or names.now m 0) else top) (length marks.now) }
+    ensures { (h : ℕ → ℕ) → ((x y : ℕ) → F.post far x y → y ≡ h x) → result ≡ least (λ m. when nat_eq (get_or marks.now m 0) 1 then h (get_or names.now m 0) else top) (length marks.now) }
 {
-    let mut best = TOP;
-    for m in 0..marks.len() {
-        best = best.min(pick(marks[m] == 1, far(names[m]), TOP));
-    }
-    best
+    marks.iter().zip(names).fold(TOP, |best, (mark, name)| {
+        best.min(pick(*mark == 1, far(*name), TOP))
+    })
 }
 
 // How far node h's numbers reach back among the marked nodes.
@@ -46,18 +44,17 @@ pub fn reach(names: &[u32], marks: &[u32], h: usize) -> u32
     least(names, marks, |name| gap(name, id))
 }
 
-// The nearest marked node.
-pub fn nearest(names: &[u32], marks: &[u32], v: u32) -> u32
+// The nearest marked node; `None` where no node is marked.
+pub fn nearest(names: &[u32], marks: &[u32], v: u32) -> Option<u32>
     requires { (length marks.now ≤ length names.now) × (length marks.now ≤ most_nodes) }
-    ensures { result ≡ nearest_spec names.now marks.now v }
+    ensures { MatchOption result (nearest_spec names.now marks.now v ≡ length marks.now) (λ m. (m ≡ nearest_spec names.now marks.now v) × (m < length marks.now)) }
 {
     let d = least(names, marks, |name| distance(v, name));
-    for m in 0..marks.len() {
-        if (marks[m] == 1) & (distance(v, names[m]) <= d) {
-            return m as u32;
-        }
-    }
-    marks.len() as u32
+    let near = marks
+        .iter()
+        .zip(names)
+        .position(|(mark, name)| (*mark == 1) & (distance(v, *name) <= d))?;
+    Some(near as u32)
 }
 
 // The identifiers of the record's nodes, side by side; 0 behind them.

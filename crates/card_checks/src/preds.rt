@@ -1,26 +1,15 @@
 // Reaches out of the record: each member's gap back to its pred. Where these preds are members, and the gaps go round the circle just once, none of
 // them is too wide (cardlayout/specs/Circle.antt). So it is in every record that a ring reaches, but where a JOINPOINT waits: then they are searched.
-ghost use Rattle.std.specs.Prelude.{◌≡◌, IfSome, ◌+◌, ◌≤◌};
-ghost use Rattle.lists.specs.Basics.{when◌then◌else◌};
+ghost use Rattle.std.specs.Prelude.{IfSome};
 ghost use Rattle.card_checks.specs.Preds.{Reaches};
 
 use crate::members::Members;
 use crate::owners::gap;
-use lists::{failure, when};
+use lists::{failure, pick};
 use protocol::form::{ROW_WORDS, ROWS_AT};
 
 // The place of pred in a row.
 const PRED_AT: usize = 4;
-
-// What a node adds to the circle: its numbers, if it is a member. (The round is 2^32, which no word holds; so `when` of lists does not serve.)
-fn arc(member: bool, far: u32) -> u64
-    ensures { (result ≡ (when member then far + 1 else 0)) × (result ≤ 4294967296) }
-{
-    if member {
-        return u64::from(far) + 1;
-    }
-    0
-}
 
 // The gaps back to the preds, where they are the members' reaches. (One loop for all that is asked of a row: a chain for each would read the rows
 // three times.)
@@ -34,8 +23,8 @@ fn by_preds(members: &Members) -> Option<[u32; 64]>
         let pred = (members.record[ROWS_AT + ROW_WORDS * h + PRED_AT] % 64) as usize;
         let member = members.marks[h] == 1;
         let far = gap(members.names[pred], members.names[h]);
-        strangers |= when(member, failure(members.marks[pred] == 1));
-        circle += arc(member, far);
+        strangers |= pick(member, failure(members.marks[pred] == 1), 0);
+        circle += pick(member, u64::from(far) + 1, 0);
         reaches[h] = far;
     }
     if (strangers == 0) & (circle == 4294967296) {

@@ -1,13 +1,17 @@
 -- An offer in the words' terms: where the kept card stands, and what each outcome leaves. Assumes nothing.
-use Rattle.std.specs.Prelude.{◌≡◌, List, [], ◌∷◌, ◌++◌, ℕ, ◌+◌, ◌≤◌, ◌<◌, nat_eq, length, get_or}
-use Rattle.std.proofs.Math.Path.{sym, ap}
+use Rattle.std.specs.Prelude.{◌≡◌, refl, Bool, true, false, Option, Some, None, MatchOption, List, [], ◌∷◌, ◌++◌, ℕ, zero, suc, ◌+◌, ◌≤◌, ◌<◌, nat_eq, length, get_or}
+use Rattle.std.proofs.Math.Path.{sym, ap, subst}
+use Rattle.std.specs.List.{find, range_with_len}
+use Rattle.std.specs.Option.{option_map}
+use Rattle.std.proofs.Common.{cond}
+use Rattle.std.proofs.Math.Nat.{zero-add}
 use Rattle.std.proofs.Common.{◌∙◌, arith, lt-ltb, le-ltb, eq-eqb, ne_eqb}
 use Rattle.std.proofs.Common.{nat_lt}
 use Rattle.std.proofs.Math.ListN.{set, drop}
 use Rattle.lists.specs.Basics.{when◌then◌else◌, require, first}
 use Rattle.lists.specs.Blocks.{get_or_table}
 use Rattle.lists.specs.Choice.{on_yes, on_no}
-use Rattle.lists.specs.Search.{first_cong}
+use Rattle.lists.specs.Search.{first_none, first_more, first_at, first_cong}
 use Rattle.lists.specs.Splice.{splice}
 use Rattle.protocol.specs.declared.Card.{Card}
 use Rattle.protocol.specs.declared.Answer.TheVariants.{Quiet}
@@ -25,6 +29,25 @@ pub place_read : (k : List ℕ) (machine : ℕ) → place (read_book k).cards ma
 place_read k machine =
     ap (first (λ j. nat_eq (get_or (read_book k).cards j no_card).machine machine)) (count_of_book k)
     ∙ first_cong _ (λ j. nat_eq (get_or k (card_start j) 0) machine) (cards_in k) (λ j l. ap (λ c. nat_eq c.machine machine) (card_of_read k j l))
+
+-- The search for a card: the least number that passes, or none.
+abbrev pub Found : (ℕ → Bool) → ℕ → Option ℕ → Type 0
+Found f n r = MatchOption r (first f n ≡ n) (λ j. (j ≡ first f n) × (j < n))
+
+found_from : (f : ℕ → Bool) (a k n : ℕ) → a + k ≡ n → first f a ≡ a → Found f n (find f (range_with_len a k))
+found_from f a zero n e p = let q : a ≡ n = omega arith in subst (λ z. first f z ≡ z) q p
+found_from f a (suc k) n e p = go (f a) refl (λ q. found_from f (a + 1) k n (omega arith) q)
+  where
+    go : (b : Bool) → f a ≡ b → (first f (a + 1) ≡ a + 1 → Found f n (find f (range_with_len (a + 1) k))) → Found f n (cond b (Some a) (find f (range_with_len (a + 1) k)))
+    go true t h = (sym (first_at f n a p t (omega arith)), omega arith)
+    go false t h = h (first_more f a p t)
+
+pub found_by : (f : ℕ → Bool) (n : ℕ) (r : Option ℕ) → option_map (λ j. j) r ≡ find f (range_with_len 0 n) → Found f n r
+found_by f n r e = subst (Found f n) (sym (same r ∙ e)) (found_from f 0 n n (zero-add n) (first_none f))
+  where
+    same : (o : Option ℕ) → o ≡ option_map (λ j. j) o
+    same (Some j) = refl
+    same None = refl
 
 -- What an accepted offer leaves.
 module _ (k : List ℕ) (n : Neat k) where

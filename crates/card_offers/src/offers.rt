@@ -14,12 +14,7 @@ fn find_card(k: &[u32], machine: u32) -> Option<u32>
     requires { (cards_in k.now ≤ most_cards) × (book_size ≤ length k.now) }
     ensures { MatchOption result (first (λ j. nat_eq (get_or k.now (card_start j) 0) machine) (cards_in k.now) ≡ cards_in k.now) (λ j. (j ≡ first (λ i. nat_eq (get_or k.now (card_start i) 0) machine) (cards_in k.now)) × (j < cards_in k.now)) }
 {
-    for j in 0..k[0] {
-        if k[CARDS_AT + CARD_WORDS * (j as usize)] == machine {
-            return Some(j);
-        }
-    }
-    None
+    (0..k[0]).find(|j| k[CARDS_AT + CARD_WORDS * (*j as usize)] == machine)
 }
 
 fn put_card(k: &mut [u32], j: u32, c: Card)
@@ -66,7 +61,8 @@ fn put(k: &mut [u32], c: Card) -> Result<Answer, Refusal>
     Err(Refusal::CardsFull)
 }
 
-// A card offered to the ring of the record: its hub is filled in. The record is only read, and a refusal changes no word of the cards.
+// A card offered to the ring of the record: its hub is filled in. The record is only read, and a refusal changes no word of the cards. (There is a
+// nearest hub: a slice that passes has a member.)
 pub fn offer(
     w: &[u32],
     k: &mut [u32],
@@ -77,7 +73,7 @@ pub fn offer(
     ensures { offer_call w.now k.old machine revision price ≡ record { outcome = result; slice = w.now; cards = k.new } }
 {
     let names = checked_names(w, k)?;
-    let hub = nearest(&names, &k[MARKS_AT..CARDS_AT], machine);
+    let hub = nearest(&names, &k[MARKS_AT..CARDS_AT], machine).unwrap();
     put(
         k,
         Card {

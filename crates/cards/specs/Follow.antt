@@ -19,7 +19,7 @@ use Rattle.cardlayout.specs.Books.{Fits, Neat, with_mark, read_fits, book_read, 
 use Rattle.cardlayout.specs.Sound.{MarksForm, zero_padding}
 use Rattle.card_checks.specs.Ready.{Ready}
 use Rattle.card_checks.specs.Marks.{mark_at}
-use Rattle.card_checks.specs.Homes.{reach_same, nearest, nearest_home}
+use Rattle.card_checks.specs.Homes.{reach_same, nearest, nearest_below, nearest_home}
 use Rattle.cards.specs.Moves.{handed, entered_cards, left_cards, stay_cards}
 
 -- the words of a book are neat
@@ -113,6 +113,11 @@ module _ (ids names k : List ℕ) (R : Ready ids names k) (h : ℕ) (lh : h < le
     some = (m, i);
     below = below_off ids (marks_in k) R.apart R.form.marks.below h lh (omega (arith, lm, size));
   }
+
+  -- another hub is marked, so that one is the nearest
+  pub others_found : (id : ℕ) → id < round → (m : ℕ) → Marked (set (marks_in k) h 0) m → nearest names (marks_in (set k (1 + h) 0)) id ≡ length (marks_in (set k (1 + h) 0)) → ⊥
+  others_found id l m i e =
+      omega (arith, e, nearest_below names (marks_in (set k (1 + h) 0)) id l m (subst (λ z. Marked z m) (sym (marked_marks k R.neat h 0 lm)) i))
 
   -- h is one, and there are others
   pub leave_law : (id far next : ℕ) (out : List ℕ) → (get_or k (1 + h) 0 ≡ 0 → ⊥) → (m : ℕ) → Marked (set (marks_in k) h 0) m → id ≡ get_or names h 0 → id < round

@@ -13,7 +13,8 @@ use lists::pick;
 use protocol::form::{CARD_WORDS, CARDS_AT, MARKS_AT};
 
 // Each card whose machine is at most `far` before the identifier gets the hub. (The slice is lent as it is, and not in a struct with Neat as its
-// invariant: that would have to hold after each word of the loop.)
+// invariant: that would have to hold after each word of the loop. Words by their index: of `chunks_exact_mut` and of `as_chunks_mut`, tried here, a
+// proof knows the slice's length afterwards and not its words, so the contract didn't follow.)
 fn hand_over(k: &mut [u32], id: u32, far: u32, hub: u32)
     requires { Neat k.old }
     ensures { k.new ≡ put_book k.old (record { marks = marks_in k.old; cards = map (handed id far hub) (read_book k.old).cards }) }
@@ -24,7 +25,8 @@ fn hand_over(k: &mut [u32], id: u32, far: u32, hub: u32)
     }
 }
 
-// Node h is marked, and the machines within its reach come to it.
+// Node h is marked, and the machines within its reach come to it. (That h is below `most_nodes` is a clause here, of `leave` and of `depart`, and no
+// type: a type would be made from an answer's number in `follow` and opened again for each use, the mark's place, the identifier and the hub.)
 pub(crate) fn enter(k: &mut [u32], names: &[u32; 64], h: u32)
     requires { (Neat k.old) × (h < most_nodes) }
     ensures { (ids : List ℕ) → Ready ids names.now k.old → h < length ids → k.new ≡ put_book k.old (moved ids (read_book k.old) (set (marks_in k.old) h 1)) }
@@ -48,6 +50,8 @@ pub(crate) fn leave(k: &mut [u32], names: &[u32; 64], h: u32)
     }
     let far = reach(names, &k[MARKS_AT..CARDS_AT], node);
     k[MARKS_AT + node] = 0;
-    let next = nearest(names, &k[MARKS_AT..CARDS_AT], id);
+    let Some(next) = nearest(names, &k[MARKS_AT..CARDS_AT], id) else {
+        return;
+    };
     hand_over(k, id, far, next);
 }

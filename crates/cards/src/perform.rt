@@ -11,7 +11,7 @@ ghost use Rattle.card_checks.specs.Ready.{Ready};
 ghost use Rattle.cards.specs.Movers.{Bound};
 
 use crate::moves::{enter, leave};
-use card_checks::{checked_names, others};
+use card_checks::{checked_names, is_marked_besides};
 use protocol::form::{CARDS_AT, MARKS_AT, RECORD_WORDS};
 use protocol::{Answer, Refusal};
 
@@ -26,7 +26,7 @@ fn depart(
     requires { (Neat k.old) × (record_size ≤ length w.old) × (h < most_nodes) }
     ensures { (w₀ : List ℕ) → w₀ ≡ saved.now ++ drop record_size w.old → Ready (identifiers (read w₀)) names.now k.old → h < length (identifiers (read w₀)) → following w₀ k.old w.old (GoneAnswer h) ≡ record { outcome = result; slice = w.new; cards = k.new } }
 {
-    if others(&k[MARKS_AT..CARDS_AT], h as usize) == 0 {
+    if !is_marked_besides(&k[MARKS_AT..CARDS_AT], h as usize) {
         w[..RECORD_WORDS].copy_from_slice(saved);
         return Err(Refusal::NotWellFormed);
     }

@@ -6,4 +6,4 @@ use Rattle.card_checks.proofs.owners.reach.Goals as goal
 
 pub returns : goal.returns
 unfolding reach gap_to
-returns c = c.least.ensures (λ x. gap x (get_or c.args.names.now c.args.h 0)) (λ x y u p. search rules)
+returns c = c.least.ensures (λ x. gap x (get_or c.args.names.now c.args.h 0)) (λ x y p. search rules)

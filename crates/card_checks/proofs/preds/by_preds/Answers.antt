@@ -1,6 +1,6 @@
 -- `by_preds`: of the first h nodes, the gaps, what they add up to, and whether a member's pred is none. Assumes nothing.
 use mathlib.Core.Path.{◌≡◌, refl, sym, ◌∙◌, ap, ap₂}
-use Prim.Native.Nat.{◌+◌}
+use Prim.Native.Nat.{◌+◌, ◌≤◌}
 use borrow.Author.Rules.{rules}
 use native.Mathlib.Omega.{arith}
 use Rattle.std.specs.Prelude.{nat_eq}
@@ -11,11 +11,17 @@ use Rattle.lists.specs.Members.{filled}
 use Rattle.lists.specs.Merge.{merged, merged_none, merged_more}
 use Rattle.lists.specs.Tests.{true_T, and_left, and_right}
 use Rattle.cardlayout.specs.Circle.{total, total_none, total_more}
-use Rattle.card_checks.specs.Preds.{gap_back, strange, arc_back, preds_law}
+use Rattle.card_checks.specs.Preds.{gap_back, strange, arc_back, preds_law, arc_few}
 use Rattle.card_checks.proofs.preds.by_preds.Goals as goal
 
 pub loop-h-init : goal.loop-h-init
 loop-h-init c = (refl, (λ j l. absurd (omega arith)), sym (merged_none _), sym (total_none _), omega arith)
+
+pub overflow_add-circle : goal.overflow_add-circle
+overflow_add-circle c = let l = c.loop-h in
+    let n = c.args.members.now.count in
+    let few : n ≤ 64 = c.args.members.now.few in
+    omega (arith, l.invariant.4, c.pick-circle.ensures, c.from.ensures, few, arc_few (nat_eq (get_or c.args.members.now.marks.now l.h 0) 1) c.from.result (omega arith))
 
 pub loop-h-preserved : goal.loop-h-preserved
 loop-h-preserved c = let l = c.loop-h in
@@ -26,9 +32,9 @@ loop-h-preserved c = let l = c.loop-h in
     let far = c.gap-far in (
       search rules,
       filled l.reaches l.h far.result 0 (gap_back w names) (omega arith) far.ensures l.invariant.1,
-      rw (merged_more, ← l.invariant.2, c.when-strangers.ensures, c.failure.ensures),
-      sym (total_more (arc_back w names marks) l.h ∙ ap₂ (λ x y. x + y) (sym l.invariant.3) (sym (c.arc-circle.ensures.0 ∙ ap (λ z. when nat_eq (get_or marks l.h 0) 1 then z + 1 else 0) far.ensures))),
-      omega (arith, l.invariant.4, c.arc-circle.ensures.1),
+      rw (merged_more, ← l.invariant.2, c.pick-strangers.ensures, c.failure.ensures),
+      sym (total_more (arc_back w names marks) l.h ∙ ap₂ (λ x y. x + y) (sym l.invariant.3) (sym (c.pick-circle.ensures ∙ ap (λ z. when nat_eq (get_or marks l.h 0) 1 then z + 1 else 0) (c.from.ensures ∙ far.ensures)))),
+      omega (arith, l.invariant.4, c.pick-circle.ensures, arc_few (nat_eq (get_or marks l.h 0) 1) c.from.result (omega arith)),
     )
 
 pub returns-then-strangers-circle : goal.returns-then-strangers-circle

@@ -1,27 +1,16 @@
--- `find_card`: no card before j is of the machine. Assumes nothing.
+-- `find_card`: the first card of the machine. Assumes nothing.
 use borrow.Author.Rules.{rules}
-use mathlib.Core.Path.{◌≡◌, sym}
+use mathlib.Core.Path.{refl}
 use native.Mathlib.Omega.{arith}
 use Rattle.std.specs.Prelude.{nat_eq}
+use Rattle.std.proofs.lemmas.Iterator.{YieldsList-from_range}
+use Rattle.std.proofs.lemmas.Iterator.Search.{find_from_yields_List}
 use lib.ListN.{get_or}
-use borrow.Author.Tests.{eq-eqb, ne_eqb}
-use Rattle.lists.specs.Search.{first_none, first_more, first_at}
 use Rattle.protocol.specs.Cards.{card_start, cards_in}
+use Rattle.card_offers.specs.Offers.{found_by}
 use Rattle.card_offers.proofs.offers.find_card.Goals as goal
 
-pub loop-j-init : goal.loop-j-init
-loop-j-init c = first_none _
-
-pub returns-then-k-j : goal.returns-then-k-j
-returns-then-k-j c = let a = c.args in
-    let l = c.loop-j in
-    (sym (first_at (λ i. nat_eq (get_or a.k.now (card_start i) 0) a.machine) (cards_in a.k.now) l.j l.invariant (eq-eqb _ _ c.if-k-j.true) (search rules)), search rules)
-
-pub loop-j-preserved : goal.loop-j-preserved
-loop-j-preserved c = let a = c.args in
-    let l = c.loop-j in
-    first_more (λ i. nat_eq (get_or a.k.now (card_start i) 0) a.machine) l.j l.invariant (ne_eqb _ _ c.if-k-j.false)
-
 pub returns : goal.returns
-returns c = let e : c.loop-j.j ≡ cards_in c.args.k.now = omega arith in
-    rw e at c.loop-j.invariant
+returns c = let k = c.args.k.now in
+    found_by _ _ c.find.result (find_from_yields_List (λ j. nat_eq (get_or k (card_start j) 0) c.args.machine) c.find.new.self _ c.find.result c.find.ensures.ran
+    (YieldsList-from_range 0 (cards_in k) (cards_in k) refl (omega arith)) (λ x b q k. search rules))
