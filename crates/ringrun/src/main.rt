@@ -6,9 +6,10 @@ ghost use Rattle.std.specs.Prelude.{◌≡◌, [], ◌≤◌, length, take, repl
 ghost use Rattle.protocol.specs.Record.{record_size};
 ghost use Rattle.ringrun.specs.Turns.{turned};
 
-use console::{Arrival, Begun, Console};
+use console::{Arrival, Console};
 use protocol::form::RECORD_WORDS;
 use stream::{KEPT, finish, take_bytes};
+use texts::Text;
 
 // A larger block makes no fewer calls that matter, and a smaller one does cost time.
 const INPUT_BYTES: usize = 8192;
@@ -20,7 +21,7 @@ const OUTPUT_BYTES: usize = 204800;
 #[derive(Drop)]
 struct Run {
     record: [u32; RECORD_WORDS],
-    line: Begun<KEPT>,
+    line: Text<KEPT>,
     input: [u8; INPUT_BYTES],
     out: [u8; OUTPUT_BYTES],
     waiting: usize,
@@ -85,7 +86,7 @@ fn begun() -> Run
 {
     Run {
         record: [0; RECORD_WORDS],
-        line: Begun::new(),
+        line: Text::new(),
         input: [0; INPUT_BYTES],
         out: [0; OUTPUT_BYTES],
         waiting: 0,

@@ -6,7 +6,7 @@ use borrow.Rule.Slice.PartMut.{put_mid}
 use borrow.Author.Tests.{ne_eqb}
 use Rattle.lists.specs.Basics.{when◌then◌else◌}
 use Rattle.protocol.specs.Frames.{line_call}
-use Rattle.console.specs.Lines.{Gathering, kept, gathered}
+use Rattle.texts.specs.Lines.{Gathering, kept, gathered}
 use Rattle.protocol.specs.Ringrun.{Standing, line_ended, byte_fed, fed, ended}
 use Rattle.stream.specs.Pieces.{cut, cut_fed}
 

@@ -4,14 +4,14 @@ ghost use Rattle.protocol.specs.Ringrun.{ended};
 ghost use Rattle.stream.specs.Pieces.{taken};
 
 use crate::answering::answer;
-use console::Begun;
+use texts::Text;
 
 // What is kept of a line: one byte more than a frame can have.
 pub const KEPT: usize = 515;
 
 // The bytes of one read: every line that ends in them is answered, and the answers stand at the front of the block. How many bytes wait there is
 // returned. Each byte can end a line, and an answer has at most 25 bytes.
-pub fn take_bytes(w: &mut [u32], line: &mut Begun<KEPT>, out: &mut [u8], input: &[u8]) -> usize
+pub fn take_bytes(w: &mut [u32], line: &mut Text<KEPT>, out: &mut [u8], input: &[u8]) -> usize
     requires { 25 * length input.now ≤ length out.old }
     ensures { (taken w.old line.old input.now ≡ record { slice = w.new; begun = line.new; printed = take result out.new }) × (result ≤ length out.old) × (drop result out.new ≡ drop result out.old) }
 {

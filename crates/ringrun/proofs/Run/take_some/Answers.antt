@@ -10,7 +10,7 @@ pub returns-in-End : goal.returns-in-End
 returns-in-End c =
     let s = c.args.self.now in
     let f = c.finish-self in
-    after_end c.receive-arrival.result s.record s.line c.receive-arrival.new.input _ c.in-End.is (rw c.as_slice.ensures at f.ensures.0)
+    after_end c.receive-arrival.result s.record s.line c.receive-arrival.new.input _ c.in-End.is (rw c.as_slice.ensures.bytes at f.ensures.0)
     ∙ ap (λ l. record { slice = f.new.w; begun = l; printed = take f.result f.new.out }) (sym c.clear.ensures)
 
 pub returns-in-Failed : goal.returns-in-Failed

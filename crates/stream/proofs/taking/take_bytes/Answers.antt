@@ -25,7 +25,7 @@ loop-rest-preserved c =
     let a = c.answer-waiting.ensures in
     record {
       same = l.invariant.same
-          ∙ line_ends l.w l.line (take l.waiting l.out) l.left.now c.gather.new.self c.in-Some.rest.now true line.0 refl _ (rw (c.as_slice.ensures, ← c.clear.ensures) at a.0);
+          ∙ line_ends l.w l.line (take l.waiting l.out) l.left.now c.gather.new.self c.in-Some.rest.now true line.0 refl _ (rw (c.as_slice.ensures.bytes, ← c.clear.ensures) at a.0);
       room = omega (arith, line.1);
       kept = a.3 ∙ drop_further l.waiting c.answer-waiting.result l.out c.args.out.now a.1 l.invariant.kept;
     }

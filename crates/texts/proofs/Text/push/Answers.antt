@@ -1,12 +1,12 @@
--- `keep`: as many of the bytes as there is room for go behind those that are held. Assumes nothing.
+-- `push`: as many of the bytes as there is room for go behind those that are held. Assumes nothing.
 use borrow.Author.Rules.{rules}
 use native.Mathlib.Omega.{arith}
 use mathlib.Core.Path.{◌≡◌, ap, ◌∙◌}
 use lib.ListN.{take, length}
 use lib.Seq.{length-take-le}
 use mathlib.Core.List.{◌++◌}
-use Rattle.console.specs.Laws.{copied}
-use Rattle.console.proofs.gathering.Begun.keep.Goals as goal
+use Rattle.texts.specs.Laws.{copied}
+use Rattle.texts.proofs.Text.push.Goals as goal
 
 pub returns : goal.returns
 returns g c =

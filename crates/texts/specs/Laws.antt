@@ -9,7 +9,7 @@ use Rattle.std.proofs.lemmas.List.Quantifiers.{position-Some}
 use Rattle.std.proofs.lemmas.Slice.{take-put_mid}
 use borrow.Rule.Slice.PartMut.{put_mid}
 use Rattle.lists.specs.Basics.{when◌then◌else◌}
-use Rattle.console.specs.Lines.{kept, gathered}
+use Rattle.texts.specs.Lines.{kept, gathered}
 
 pub take_more : (n : ℕ) (l t : List ℕ) → take n (take n l ++ t) ≡ take n (l ++ t)
 take_more zero l t = refl

@@ -1,24 +1,26 @@
-// A line out of the bytes of an input, which may hold a part of it, or many.
+// Texts that grow, of at most so many bytes: lines out of the bytes of an input, which may hold a part of one, or many; and lines that are
+// written.
+#![tactic(auto)]
+
 ghost use Rattle.std.specs.Prelude.{◌≡◌, true, false, ℕ, List, [], ◌++◌, ◌<◌, ◌≤◌, ◌==◌, length, take, position, MatchOption};
-ghost use Rattle.console.specs.Lines.{gathered};
+ghost use Rattle.texts.specs.Lines.{gathered};
 
 use std::fmt;
 use std::marker::Model;
 
-// What has come of a line that has not ended yet, or of a text that is being written. Its first N bytes are kept and the rest is dropped, so that
-// a line of any length costs no more than these.
+// The bytes of a text so far. The first N are kept and the rest is dropped, so that a line of any length costs no more than these.
 #[derive(Drop)]
-pub struct Begun<const N: usize> {
+pub struct Text<const N: usize> {
     bytes: [u8; N],
     held: usize,
 }
 
-impl<const N: usize> Model for Begun<N> {
+impl<const N: usize> Model for Text<N> {
     ghost Value = { List ℕ };
 
-    ghost view = { λ b. take b.held b.bytes };
+    ghost view = { λ t. take t.held t.bytes };
 
-    ghost invariant = { λ b. b.held ≤ N };
+    ghost invariant = { λ t. t.held ≤ N };
 }
 
 // The place of the first LF.
@@ -28,30 +30,32 @@ fn line_end(input: &[u8]) -> Option<usize>
     input.iter().position(|b| *b == b'\n')
 }
 
-impl<const N: usize> Begun<N> {
+impl<const N: usize> Text<N> {
     pub fn new() -> Self
         ensures { result ≡ [] }
     {
-        Begun {
+        Text {
             bytes: [0; N],
             held: 0,
         }
     }
 
     pub fn as_slice(&self) -> &[u8]
-        ensures { result.now ≡ self.now }
+        ensures bytes { result.now ≡ self.now }
+        ensures few { length result.now ≤ N }
     {
         &self.bytes[..self.held]
     }
 
-    // A new line begins.
+    // A new text begins.
     pub fn clear(&mut self)
         ensures { self.new ≡ [] }
     {
         self.held = 0;
     }
 
-    fn keep(&mut self, bytes: &[u8])
+    // The bytes go behind those that are held, as many as there is room for.
+    pub fn push(&mut self, bytes: &[u8])
         ensures kept { self.new ≡ take N (self.old ++ bytes.now) }
         ensures few { length self.old ≤ N }
     {
@@ -68,19 +72,19 @@ impl<const N: usize> Begun<N> {
         ensures few { length self.new ≤ N }
     {
         let Some(end) = line_end(input) else {
-            self.keep(input);
+            self.push(input);
             return None;
         };
-        self.keep(&input[..end]);
+        self.push(&input[..end]);
         Some(&input[end + 1..])
     }
 }
 
-impl<const N: usize> fmt::Write for Begun<N> {
+impl<const N: usize> fmt::Write for Text<N> {
     ghost write_str_gives = { λ s bytes t. t ≡ take N (s ++ bytes) };
 
     fn write_str(&mut self, text: &str) -> fmt::Result {
-        self.keep(text.as_bytes());
+        self.push(text.as_bytes());
         Ok(())
     }
 }
