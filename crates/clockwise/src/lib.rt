@@ -5,10 +5,11 @@ ghost use Rattle.std.specs.Prelude.{◌≡◌, ◌^◌};
 ghost use Rattle.clockwise.specs.Clockwise.{dist, in_range};
 
 // How far b is from a, clockwise.
+#[tactic(auto, unfolding(crate::specs::Clockwise::dist))]
 pub fn distance(a: u32, b: u32) -> u32
     ensures { result ≡ dist (2 ^ 32) a b }
 {
-    std::num::wrapping_sub_u32(b, a)
+    b.wrapping_sub(a)
 }
 
 // Whether v is in the interval (a, b], which is every number where a = b. The numbers themselves are compared: from a up to b, or, where b is

@@ -3,7 +3,7 @@ ghost use Rattle.std.specs.Prelude.{◌≡◌, length};
 ghost use Rattle.protocol.specs.Frames.{digit_of, print, refusal_text, fields_text, outcome_text, line};
 
 use crate::line::Line;
-use answers::answer_words;
+use protocol::form::ANSWER_WORDS;
 use protocol::{Answer, Refusal};
 
 // The last digit of a number, upper case.
@@ -37,7 +37,7 @@ pub fn refusal_line(number: u32) -> Line
     Line::of(&text)
 }
 
-fn fields_line(fields: [u32; 5]) -> Line
+fn fields_line(fields: [u32; ANSWER_WORDS]) -> Line
     ensures { result ≡ line (fields_text fields) }
 {
     let mut text = [0u8; 24];
@@ -54,6 +54,6 @@ pub fn outcome_line(o: Result<Answer, Refusal>) -> Line
 {
     match o {
         Err(k) => refusal_line(u32::from(k)),
-        Ok(a) => fields_line(answer_words(a)),
+        Ok(a) => fields_line(<[u32; ANSWER_WORDS]>::from(a)),
     }
 }

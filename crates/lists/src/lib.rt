@@ -16,23 +16,9 @@ pub fn pick<T: Copy>(test: bool, a: T, b: T) -> T
     b
 }
 
-// 1 where the test fails, so that failures can be merged by `|` and looked at once, at the end. (By the test that must hold: `u32::from` would take
-// its negation.)
+// 1 where the test fails, so that failures can be merged by `|` and looked at once, at the end.
 pub fn failure(test: bool) -> u32
     ensures { result ≡ (when test then 0 else 1) }
 {
-    if test {
-        return 0;
-    }
-    1
-}
-
-// The number where the test passes, else 0: a failure that counts only then.
-pub fn when(test: bool, x: u32) -> u32
-    ensures { result ≡ (when test then x else 0) }
-{
-    if test {
-        return x;
-    }
-    0
+    pick(test, 0, 1)
 }

@@ -19,7 +19,10 @@ pub const MESSAGE_WORDS: usize = 6;
 
 pub const MOST_MESSAGES: u32 = 256;
 
-// 'Pointers are hub numbers, 255 for none.'
+// The words of an answer.
+pub const ANSWER_WORDS: usize = 5;
+
+// 'Pointers are hub numbers, 255 for none.' (No Option: a row is words that callers in C lend.)
 pub const NONE: u32 = 255;
 
 // The form of a card slice (document 02, 2026-04): the number of cards, a mark for each node, and four words a card. specs/Cards.antt has the same numbers.

@@ -77,7 +77,7 @@ pub enum Decision {
 }
 
 // How many steps gave each kind of answer, and how many were refused.
-#[derive(Clone, Copy)]
+#[derive(Clone, Copy, Default)]
 pub struct Tally {
     pub quiet: u64,
     pub found: u64,

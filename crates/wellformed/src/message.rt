@@ -3,7 +3,7 @@
 ghost use Rattle.std.specs.Prelude.{◌≡◌, ◌&&◌, nat_le, nat_lt, nat_eq};
 ghost use Rattle.protocol.specs.WellFormed.{names_node, a_ok, b_ok, hops_ok, message_ok};
 
-use lists::{failure, when};
+use lists::{failure, pick};
 use protocol::{Message, kinds};
 
 // Whether a is a node in a message of this kind: JOIN, JOINPOINT, NEWSUCCACK and LEAVEPOINT.
@@ -29,10 +29,10 @@ fn bad_fields(n: u32, asked: u32, m: Message) -> u32
 {
     let names = names_node(m.kind);
     let lookup = failure(m.b < asked) | (m.hops / 65536);
-    let others = m.b | m.hops | when(!names, m.a);
-    when(m.kind == kinds::LOOKUP, lookup)
-        | when(names, failure(m.a < n))
-        | when(m.kind != kinds::LOOKUP, others)
+    let others = m.b | m.hops | pick(!names, m.a, 0);
+    pick(m.kind == kinds::LOOKUP, lookup, 0)
+        | pick(names, failure(m.a < n), 0)
+        | pick(m.kind != kinds::LOOKUP, others, 0)
 }
 
 // 0 for a message of a ring of n nodes with so many questions asked.

@@ -10,7 +10,7 @@ returns c =
     let a = c.args in
     let names = c.names_node-names.ensures in
     fields_law a.n a.asked a.m _ _ _ _ _ _ c.failure.ensures c.failure-2.ensures
-    (c.when.ensures ∙ ap (λ z. when not z then a.m.a else 0) names)
-    c.when-2.ensures
-    (c.when-3.ensures ∙ ap (λ z. when z then c.failure-2.result else 0) names)
-    c.when-4.ensures
+    (c.pick.ensures ∙ ap (λ z. when not z then a.m.a else 0) names)
+    c.pick-2.ensures
+    (c.pick-3.ensures ∙ ap (λ z. when z then c.failure-2.result else 0) names)
+    c.pick-4.ensures
