@@ -1,11 +1,10 @@
 -- The last digits of a number, put down from the last to the first, and the line of a text. Assumes nothing.
-use Rattle.std.specs.Prelude.{◌≡◌, refl, List, [], ◌∷◌, ◌++◌, ℕ, zero, suc, ◌+◌, ◌/◌, ◌^◌, ◌<◌, ◌≤◌, ◌-◌, length, set, drop, take, replicate}
-use Rattle.std.proofs.Common.{ap, sym, ◌∙◌, arith, length-append, length-take, length-drop}
-use Rattle.std.proofs.Math.Seq.{take-append-add, drop-cons}
-use Rattle.std.proofs.lemmas.List.{get_or-replicate}
+use Rattle.std.specs.Prelude.{◌≡◌, refl, List, [], ◌∷◌, ◌++◌, ℕ, zero, suc, ◌+◌, ◌/◌, ◌^◌, ◌<◌, ◌≤◌, ◌-◌, length, set, drop, take}
+use Rattle.std.proofs.Common.{ap, sym, ◌∙◌, arith, length-append, length-take, length-drop, take_all}
 use Rattle.std.proofs.Math.Nat.{pow-suc, pow-succ', div-div-eq-div-mul}
 use borrow.Rule.Slice.PartMut.{put_mid}
 use Rattle.lists.specs.Splice.{splice, put_part}
+use Rattle.texts.specs.Laws.{all_fits}
 use Rattle.protocol.specs.Frames.{digit_of, print, line}
 
 -- the same number, divided once more
@@ -50,12 +49,10 @@ put_more s i n v d rest h k m e f g =
       rw (q, f) (divided v (n - i)),
     )
 
--- the text and one LF more, of an array of LF
-pub line_is : (t : List ℕ) → length t < 25 → take (length t + 1) (t ++ drop (length t) (replicate 25 10)) ≡ line t
+-- the text, and LF behind it, where there is room for both
+pub line_is : (n : ℕ) (t : List ℕ) → length t < n → take n (take n t ++ (10 ∷ [])) ≡ line t
 unfolding line
-line_is t h =
-    take-append-add t (drop (length t) (replicate 25 10)) 1
-    ∙ rw (drop-cons {A = ℕ} (replicate 25 10) (length t) 0 h, get_or-replicate {A = ℕ} 25 (length t) 10 0 h)
+line_is n t h = ap (λ z. take n (z ++ (10 ∷ []))) (take_all n t (omega arith)) ∙ all_fits n t (10 ∷ []) (omega arith)
 
 -- digits put into a part of a line
 pub put_at : (w ys : List ℕ) (a k v : ℕ) → a + k ≤ length w → ys ≡ print (length (take k (drop a w))) v → put_mid a k w ys ≡ splice w a (print k v)

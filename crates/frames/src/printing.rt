@@ -1,12 +1,15 @@
 // The line that is printed for an outcome.
-ghost use Rattle.std.specs.Prelude.{◌≡◌, length};
+ghost use Rattle.std.specs.Prelude.{◌≡◌, ◌≤◌, ◌<◌, length};
 ghost use Rattle.protocol.specs.Frames.{digit_of, print, refusal_text, fields_text, outcome_text, line};
 
-use crate::line::Line;
 use protocol::form::ANSWER_WORDS;
 use protocol::{Answer, Refusal};
+use texts::Text;
 
-// The last digit of a number, upper case.
+// The longest line: the digits of an answer, and LF.
+pub const LINE: usize = 25;
+
+// The last digit of a number, upper case. (The documents' rule, as it stands in its contract: the library's `from_digit` gives lower case.)
 fn digit_of(v: u32) -> u8
     ensures { result ≡ digit_of v }
 {
@@ -28,28 +31,41 @@ pub fn put(out: &mut [u8], v: u32)
     }
 }
 
-pub fn refusal_line(number: u32) -> Line
+// The text, and LF behind it.
+fn line_of<const N: usize>(text: &[u8]) -> Text<N>
+    requires { length text.now < N }
+    ensures { result ≡ line text.now }
+{
+    let mut whole = Text::new();
+    whole.push(text);
+    whole.push(b"\n");
+    whole
+}
+
+// `hubsheet` prints such a line too, and has more room for one.
+pub fn refusal_line<const N: usize>(number: u32) -> Text<N>
+    requires { 5 ≤ N }
     ensures { result ≡ line (refusal_text number) }
 {
     let mut text = [0u8; 4];
     put(&mut text[0..2], 238);
     put(&mut text[2..4], number);
-    Line::of(&text)
+    line_of(&text)
 }
 
-fn fields_line(fields: [u32; ANSWER_WORDS]) -> Line
+fn fields_line(fields: [u32; ANSWER_WORDS]) -> Text<LINE>
     ensures { result ≡ line (fields_text fields) }
 {
-    let mut text = [0u8; 24];
+    let mut text = [0u8; LINE - 1];
     put(&mut text[0..2], fields[0]);
     put(&mut text[2..4], fields[1]);
     put(&mut text[4..12], fields[2]);
     put(&mut text[12..20], fields[3]);
     put(&mut text[20..24], fields[4]);
-    Line::of(&text)
+    line_of(&text)
 }
 
-pub fn outcome_line(o: Result<Answer, Refusal>) -> Line
+pub fn outcome_line(o: Result<Answer, Refusal>) -> Text<LINE>
     ensures { result ≡ line (outcome_text o) }
 {
     match o {

@@ -1,6 +1,6 @@
 -- A line is gathered byte by byte: up to its LF, or to the end of the input. Assumes nothing.
 use Rattle.std.specs.Prelude.{◌≡◌, refl, Bool, true, false, List, [], ◌∷◌, ◌++◌, ℕ, zero, suc, ◌≤◌, ◌<◌, ◌+◌, ◌-◌, min, length, take, drop, get_or, nat_eq, nat_lt, Some, None, position}
-use Rattle.std.proofs.Common.{ap, sym, ◌∙◌, append_assoc, append-nil, add-one, arith, ltb-false, length-take, length-take-le, take_all}
+use Rattle.std.proofs.Common.{ap, sym, ◌∙◌, append_assoc, append-nil, add-one, arith, ltb-false, length-append, length-take, length-take-le, take_all}
 use Rattle.std.specs.List.{position_or_len}
 use Rattle.std.proofs.Math.Seq.{take-append-add}
 use Rattle.std.proofs.lemmas.List.{take_min}
@@ -10,6 +10,10 @@ use Rattle.std.proofs.lemmas.Slice.{take-put_mid}
 use borrow.Rule.Slice.PartMut.{put_mid}
 use Rattle.lists.specs.Basics.{when◌then◌else◌}
 use Rattle.texts.specs.Lines.{kept, gathered}
+
+-- what there is room for is kept whole
+pub all_fits : (n : ℕ) (t u : List ℕ) → length t + length u ≤ n → take n (t ++ u) ≡ t ++ u
+all_fits n t u h = let e = length-append t u in take_all n (t ++ u) (omega arith)
 
 pub take_more : (n : ℕ) (l t : List ℕ) → take n (take n l ++ t) ≡ take n (l ++ t)
 take_more zero l t = refl

@@ -4,4 +4,4 @@ use Rattle.frames.proofs.printing.fields_line.Goals as goal
 
 pub returns : goal.returns
 unfolding fields_text
-returns c = rw (c.of.ensures, c.put-5.ensures, c.put-4.ensures, c.put-3.ensures, c.put-2.ensures, c.put.ensures)
+returns c = rw (c.line_of.ensures, c.put-5.ensures, c.put-4.ensures, c.put-3.ensures, c.put-2.ensures, c.put.ensures)

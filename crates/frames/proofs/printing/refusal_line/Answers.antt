@@ -4,4 +4,4 @@ use Rattle.frames.proofs.printing.refusal_line.Goals as goal
 
 pub returns : goal.returns
 unfolding refusal_text
-returns c = simp (c.of.ensures, c.put-2.ensures, c.put.ensures)
+returns g c = simp (c.line_of.ensures, c.put-2.ensures, c.put.ensures)
