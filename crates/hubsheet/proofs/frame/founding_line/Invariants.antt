@@ -1,8 +1,8 @@
--- `put_founding`: the digits of the identifiers so far are written. Assumes nothing.
-use Rattle.std.proofs.Common.{◌≡◌, take}
-use Rattle.lists.specs.Splice.{splice}
+-- `founding_line`: the digits of the identifiers so far stand behind F0. Assumes nothing.
+use Rattle.std.proofs.Common.{◌≡◌, ◌++◌, take}
+use Rattle.protocol.specs.Frames.{print2}
 use Rattle.hubsheet.specs.Line.{eights}
-use Rattle.hubsheet.proofs.frame.put_founding.Given as goal
+use Rattle.hubsheet.proofs.frame.founding_line.Given as goal
 
-abbrev pub invariant-loop-i : goal.invariant-loop-i
-invariant-loop-i l = l.out ≡ splice l.initial.out 2 (eights (take l.i l.identifiers))
+abbrev pub invariant-loop-identifier : goal.invariant-loop-identifier
+invariant-loop-identifier l = l.line ≡ print2 240 ++ eights (take l.identifier-index l.identifiers)

@@ -1,23 +1,23 @@
--- `put_line`: by where the text ended. Assumes nothing.
+-- `line_of`: by where the text ended. Assumes nothing.
 use mathlib.Core.Path.{ap, ◌∙◌}
 use mathlib.Core.Bool.{◌&&◌}
 use Prim.Native.Nat.{◌+◌, min}
-use native.Mathlib.Omega.{arith}
 use Rattle.std.specs.Prelude.{is_some}
-use Rattle.protocol.specs.Frames.{refusal_text}
-use Rattle.hubsheet.specs.Line.{refusal_line, rows_line, printed_as, line_within, line_rows, line_number}
-use Rattle.hubsheet.proofs.frame.put_line.Goals as goal
+use Rattle.protocol.specs.Frames.{line}
+use Rattle.hubsheet.specs.Line.{refusal_line, rows_line, line_within, line_rows, line_number}
+use Rattle.hubsheet.proofs.frame.line_of.Goals as goal
 
 pub returns-in-Within : goal.returns-in-Within
-unfolding refusal_line refusal_text
-returns-in-Within c = let r = c.put_refusal.ensures.0 in (omega arith, printed_as c.args.held.now.hubs c.args.held.now.identifiers c.args.out.now _ _ _ c.put_refusal.ensures.0 c.put_refusal.ensures.1 (λ m k. line_within c.args.held.now.hubs c.args.held.now.identifiers c.ending.result c.ending.ensures m k c.in-Within.is))
+unfolding refusal_line line
+returns-in-Within c = λ m k. let h = c.args.held.now in simp (← line_within h.hubs h.identifiers c.ending.result c.ending.ensures m k c.in-Within.is, ← c.from.ensures) c.refusal_line.ensures
 
 pub returns-in-BehindRows : goal.returns-in-BehindRows
-returns-in-BehindRows c = (c.put_rows.ensures.0, printed_as c.args.held.now.hubs c.args.held.now.identifiers c.args.out.now _ _ _ c.put_rows.ensures.1 c.put_rows.ensures.2 (λ m k. line_rows c.args.held.now.hubs c.args.held.now.identifiers c.ending.result c.ending.ensures m k c.in-BehindRows.is))
+returns-in-BehindRows c = λ m k. let h = c.args.held.now in c.rows_line.ensures ∙ line_rows h.hubs h.identifiers c.ending.result c.ending.ensures m k c.in-BehindRows.is
 
 pub returns-in-BehindNumber : goal.returns-in-BehindNumber
 returns-in-BehindNumber c =
-    let f = c.args.held.now.hubs.fits && is_some c.args.held.now.hubs.value in
-    let r = min (c.args.held.now.hubs.rows + 1) 65 in
-    let e = ap (λ z. rows_line z c.counted.result c.keep.new.self.identifiers) (ap (λ t. c.args.held.now.hubs.fits && t) c.is_some.ensures) ∙ ap (λ z. rows_line f z c.keep.new.self.identifiers) c.counted.ensures ∙ ap (rows_line f r) c.keep.ensures.identifiers in
-    (c.put_rows-in-BehindNumber.ensures.0, printed_as c.args.held.now.hubs c.args.held.now.identifiers c.args.out.now _ _ _ c.put_rows-in-BehindNumber.ensures.1 c.put_rows-in-BehindNumber.ensures.2 (λ m k. e ∙ line_number c.args.held.now.hubs c.args.held.now.identifiers c.ending.result c.ending.ensures m k c.in-BehindNumber.is))
+    let h = c.args.held.now in
+    let f = h.hubs.fits && is_some h.hubs.value in
+    let r = min (h.hubs.rows + 1) 65 in
+    let e = ap (λ z. rows_line z c.counted.result c.keep.new.self.identifiers) (ap (λ t. h.hubs.fits && t) c.is_some.ensures) ∙ ap (λ z. rows_line f z c.keep.new.self.identifiers) c.counted.ensures ∙ ap (rows_line f r) c.keep.ensures.identifiers in
+    λ m k. c.rows_line-in-BehindNumber.ensures ∙ e ∙ line_number h.hubs h.identifiers c.ending.result c.ending.ensures m k c.in-BehindNumber.is
