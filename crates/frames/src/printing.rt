@@ -20,7 +20,8 @@ fn digit_of(v: u32) -> u8
     (55 + d) as u8
 }
 
-// The last digits of a number, as many as there is room for.
+// The last digits of a number, as many as there is room for. (By index: tried with `iter_mut().rev()`, behind which nothing is known of the slice, so
+// that the proof of the return did not close.)
 pub fn put(out: &mut [u8], v: u32)
     ensures { out.new ≡ print (length out.old) v }
 {
