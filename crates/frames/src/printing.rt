@@ -1,5 +1,5 @@
 // The line that is printed for an outcome.
-ghost use Rattle.std.specs.Prelude.{◌≡◌, ◌≤◌, ◌<◌, length};
+ghost use Rattle.std.specs.Prelude.{◌≡◌, ◌≤◌, length};
 ghost use Rattle.protocol.specs.Frames.{digit_of, print, refusal_text, fields_text, outcome_text, line};
 
 use protocol::form::ANSWER_WORDS;
@@ -32,38 +32,32 @@ pub fn put(out: &mut [u8], v: u32)
     }
 }
 
-// The text, and LF behind it.
-fn line_of<const N: usize>(text: &[u8]) -> Text<N>
-    requires { length text.now < N }
-    ensures { result ≡ line text.now }
-{
-    let mut whole = Text::new();
-    whole.push(text);
-    whole.push(b"\n");
-    whole
-}
-
-// `hubsheet` prints such a line too, and has more room for one.
+// `hubsheet` prints such a line too, and has more room for one. (The bytes begin as LF, so that what is put in front of the last of them ends with
+// one: a line that is copied whole takes less time than its text and then LF.)
 pub fn refusal_line<const N: usize>(number: u32) -> Text<N>
     requires { 5 ≤ N }
     ensures { result ≡ line (refusal_text number) }
 {
-    let mut text = [0u8; 4];
-    put(&mut text[0..2], 238);
-    put(&mut text[2..4], number);
-    line_of(&text)
+    let mut bytes = [b'\n'; 5];
+    put(&mut bytes[0..2], 238);
+    put(&mut bytes[2..4], number);
+    let mut printed = Text::new();
+    printed.push(&bytes);
+    printed
 }
 
 fn fields_line(fields: [u32; ANSWER_WORDS]) -> Text<LINE>
     ensures { result ≡ line (fields_text fields) }
 {
-    let mut text = [0u8; LINE - 1];
-    put(&mut text[0..2], fields[0]);
-    put(&mut text[2..4], fields[1]);
-    put(&mut text[4..12], fields[2]);
-    put(&mut text[12..20], fields[3]);
-    put(&mut text[20..24], fields[4]);
-    line_of(&text)
+    let mut bytes = [b'\n'; LINE];
+    put(&mut bytes[0..2], fields[0]);
+    put(&mut bytes[2..4], fields[1]);
+    put(&mut bytes[4..12], fields[2]);
+    put(&mut bytes[12..20], fields[3]);
+    put(&mut bytes[20..24], fields[4]);
+    let mut printed = Text::new();
+    printed.push(&bytes);
+    printed
 }
 
 pub fn outcome_line(o: Result<Answer, Refusal>) -> Text<LINE>
