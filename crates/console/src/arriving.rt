@@ -2,7 +2,6 @@
 ghost use Rattle.console.specs.Arrivals.{Arrived};
 
 use crate::Console;
-use crate::retries::may_retry;
 use std::io::Read;
 
 // What a read brought: so many bytes, at least one; the end of the input; or nothing more, since it failed. (Three ways, so neither an Option nor
@@ -25,8 +24,7 @@ impl Console<'_> {
                 Ok(0) => return Arrival::End,
                 Ok(got) => return Arrival::Bytes(got),
                 Err(error) => {
-                    if !may_retry(error) {
-                        self.tell_failure(b"standard input", error);
+                    if !self.may_retry(b"standard input", error) {
                         return Arrival::Failed;
                     }
                 }

@@ -2,12 +2,12 @@
 ghost use Rattle.std.specs.Prelude.{◌≤◌, length};
 
 use crate::Console;
-use crate::retries::may_retry;
 use std::io::Print;
 
 impl Console<'_> {
     // Writes what it can, and answers what is left: something where a write fails, which is told, or takes nothing. Its turns are as those of
-    // `receive`.
+    // `receive`. (One loop for both would take the call as a closure. That of a read changes the block which it holds, so that the loop's contract
+    // would have to say what all its calls in a row leave of the block's length.)
     fn write_on<'a>(&self, text: &'a [u8]) -> &'a [u8]
         ensures { length result.now ≤ length text.now }
     {
@@ -20,8 +20,7 @@ impl Console<'_> {
                 Ok(0) => return left,
                 Ok(took) => left = &left[took..],
                 Err(error) => {
-                    if !may_retry(error) {
-                        self.tell_failure(b"standard output", error);
+                    if !self.may_retry(b"standard output", error) {
                         return left;
                     }
                 }

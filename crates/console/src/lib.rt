@@ -1,16 +1,14 @@
-// Standard input and output for a program that answers lines: lines out of the bytes that arrive, answers to standard output, and a word on
-// standard error about whatever fails.
+// Standard input and output for a program that answers lines: the bytes that arrive, answers to standard output, and a word on standard error about
+// whatever fails.
 #![tactic(auto)]
 
 mod arriving;
-mod gathering;
 mod leaving;
 mod reasons;
 mod retries;
 mod telling;
 
 pub use arriving::Arrival;
-pub use gathering::Begun;
 
 // A program's standard input and output, and its name, which stands before what it says on standard error.
 #[derive(Clone, Copy)]

@@ -1,11 +1,11 @@
 // The system's word for why a call failed.
-use crate::gathering::Begun;
 use std::fmt::Write;
 use std::io::Error;
+use texts::Text;
 
 // The first bytes of the library's text for an error, which has the system's word and behind it the number, in brackets.
-pub fn text_of(error: Error) -> Begun<256> {
-    let mut text = Begun::new();
+pub fn text_of(error: Error) -> Text<256> {
+    let mut text = Text::new();
     let _ = write!(text, "{error}");
     text
 }

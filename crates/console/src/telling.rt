@@ -1,4 +1,5 @@
 // What failed, and what was lost by it, on standard error. Where standard error fails too, nobody can be told.
+// (In pieces, since the name and the word are bytes, which have no Display.)
 use crate::Console;
 use crate::reasons::{text_of, word};
 use std::io::{Error, Print};

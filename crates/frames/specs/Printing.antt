@@ -1,12 +1,8 @@
--- The last digits of a number, put down from the last to the first, and the line of a text. Assumes nothing.
-use Rattle.std.specs.Prelude.{◌≡◌, refl, List, [], ◌∷◌, ◌++◌, ℕ, zero, suc, ◌+◌, ◌/◌, ◌^◌, ◌<◌, ◌≤◌, ◌-◌, length, set, drop, take, replicate}
-use Rattle.std.proofs.Common.{ap, sym, ◌∙◌, arith, length-append, length-take, length-drop}
-use Rattle.std.proofs.Math.Seq.{take-append-add, drop-cons}
-use Rattle.std.proofs.lemmas.List.{get_or-replicate}
+-- The last digits of a number, put down from the last to the first. Assumes nothing.
+use Rattle.std.specs.Prelude.{◌≡◌, refl, List, [], ◌∷◌, ◌++◌, ℕ, zero, suc, ◌/◌, ◌^◌, ◌<◌, ◌≤◌, ◌-◌, length, set, drop}
+use Rattle.std.proofs.Common.{ap, sym, ◌∙◌, arith, length-append}
 use Rattle.std.proofs.Math.Nat.{pow-suc, pow-succ', div-div-eq-div-mul}
-use borrow.Rule.Slice.PartMut.{put_mid}
-use Rattle.lists.specs.Splice.{splice, put_part}
-use Rattle.protocol.specs.Frames.{digit_of, print, line}
+use Rattle.protocol.specs.Frames.{digit_of, print}
 
 -- the same number, divided once more
 pub divided : (v k : ℕ) → v / 16 ^ k / 16 ≡ v / 16 ^ suc k
@@ -49,21 +45,3 @@ put_more s i n v d rest h k m e f g =
       rw (q, print_front (n - i) v, one_front s (i - 1) d (omega arith), j, e, g, f),
       rw (q, f) (divided v (n - i)),
     )
-
--- the text and one LF more, of an array of LF
-pub line_is : (t : List ℕ) → length t < 25 → take (length t + 1) (t ++ drop (length t) (replicate 25 10)) ≡ line t
-unfolding line
-line_is t h =
-    take-append-add t (drop (length t) (replicate 25 10)) 1
-    ∙ rw (drop-cons {A = ℕ} (replicate 25 10) (length t) 0 h, get_or-replicate {A = ℕ} 25 (length t) 10 0 h)
-
--- digits put into a part of a line
-pub put_at : (w ys : List ℕ) (a k v : ℕ) → a + k ≤ length w → ys ≡ print (length (take k (drop a w))) v → put_mid a k w ys ≡ splice w a (print k v)
-put_at w ys a k v h e =
-    let n : length (take k (drop a w)) ≡ k = simp (length-take, length-drop) (omega arith) in
-    ap (put_mid a k w) (e ∙ ap (λ i. print i v) n) ∙ put_part a k w (print k v) (length_print k v)
-
-pub put_at_length : (w ys : List ℕ) (a k : ℕ) → a + k ≤ length w → length ys ≡ length (take k (drop a w)) → length (put_mid a k w ys) ≡ length w
-put_at_length w ys a k h e =
-    let n : length (take k (drop a w)) ≡ k = simp (length-take, length-drop) (omega arith) in
-    simp (length-append, length-take, length-drop) (omega arith)

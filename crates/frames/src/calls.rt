@@ -4,12 +4,12 @@ ghost use Rattle.protocol.specs.Calls.{fresh_by_call};
 ghost use Rattle.protocol.specs.Frames.{identifiers as identifiers_spec, line_call};
 
 use crate::digits::number;
-use crate::line::Line;
-use crate::printing::{outcome_line, refusal_line};
+use crate::printing::{LINE, outcome_line, refusal_line};
 use crate::reading::decode;
 use founding::fresh;
 use protocol::{Answer, Frame, Refusal};
 use steps::step;
+use texts::Text;
 
 // What is printed as the number of a line that is no frame: EEFF. No call refuses by it.
 const UNREADABLE: u32 = 255;
@@ -38,7 +38,7 @@ pub fn fresh_ring(w: &mut [u32], line: &[u8], count: usize) -> Result<Answer, Re
 }
 
 // One line, without its LF, on the record's words: what is printed for it, and the words after it. Every line and every slice are taken.
-pub fn answer_line(w: &mut [u32], line: &[u8]) -> Line
+pub fn answer_line(w: &mut [u32], line: &[u8]) -> Text<LINE>
     ensures { line_call w.old line.now ≡ record { printed = result; slice = w.new } }
 {
     let Some(frame) = decode(line) else {

@@ -17,7 +17,8 @@ pub fn all_digits(line: &[u8]) -> bool
     line.iter().all(|b| is_digit(*b))
 }
 
-// A byte that is no digit counts as 0, so that any eight bytes give a number that fits.
+// A byte that is no digit counts as 0, so that any eight bytes give a number that fits. (The documents' rule, as it stands in its contract: the library's
+// `to_digit` takes lower case too.)
 fn digit_value(b: u8) -> u32
     ensures { result ≡ digit_value b }
 {
@@ -25,13 +26,13 @@ fn digit_value(b: u8) -> u32
         return 0;
     }
     if b < 58 {
-        return (b - 48) as u32;
+        return u32::from(b - 48);
     }
     if b < 65 {
         return 0;
     }
     if b < 71 {
-        return (b - 55) as u32;
+        return u32::from(b - 55);
     }
     0
 }

@@ -3,11 +3,9 @@
 
 mod calls;
 mod digits;
-mod line;
 mod printing;
 mod reading;
 
 pub use calls::{answer_line, fresh_ring};
-pub use line::Line;
-pub use printing::put;
+pub use printing::{LINE, put, refusal_line};
 pub use reading::decode;

@@ -7,7 +7,7 @@ use Rattle.std.proofs.lemmas.Bool.{lt-leb}
 use Rattle.std.proofs.Math.Seq.{take-length}
 use Rattle.lists.specs.Basics.{when◌then◌else◌, require, every}
 use Rattle.lists.specs.Choice.{on_yes, on_no}
-use Rattle.lists.specs.Splice.{splice}
+use Rattle.texts.specs.Laws.{all_fits}
 use Rattle.protocol.specs.Frames.{print2, print8, refusal_text}
 use Rattle.protocol.specs.declared.refusal.Refusal.{Refusal}
 use Rattle.protocol.specs.declared.refusal.Refusal.TheVariants.{NoSheet, IdentifierTooLarge, RoomShort}
@@ -15,9 +15,8 @@ use Rattle.protocol.specs.Refusals.{number_of}
 use Rattle.sheets.specs.declared.Ending.{Ending}
 use Rattle.sheets.specs.declared.Ending.TheVariants.{Within, BehindRows, BehindNumber}
 use Rattle.sheets.specs.Reader.{Reader, Said, nothing, lists, ending, ended_as, ended}
-use Rattle.sheets.specs.Calls.{laid, is_word}
+use Rattle.sheets.specs.Calls.{is_word}
 use Rattle.sheets.specs.Words.{words, words_same}
-use Rattle.sheets.specs.Laying.{laid_splice, two_pieces, three_pieces}
 use Rattle.hubsheet.specs.declared.hubs.Hubs.{Hubs}
 use Rattle.hubsheet.specs.Held.{Holds, holds_row}
 
@@ -56,14 +55,18 @@ length_eights [] = refl
 length_eights (v ∷ l) = let e = length-append (print8 v) (eights l) in let f = length_print8 v in let g = length_eights l in omega arith
 
 -- eight digits more
-pub eights_put : (w u l : List ℕ) (i : ℕ) → i < length l → 2 + 8 * length l ≤ length w → u ≡ splice w 2 (eights (take i l)) → splice u (2 + 8 * i) (print8 (get_or l i 0)) ≡ splice w 2 (eights (take (i + 1) l))
-eights_put w u l i h k e =
+pub eights_put : (t l : List ℕ) (i : ℕ) → i < length l → length l ≤ 64 → t ≡ print2 240 ++ eights (take i l) → take 516 (t ++ print8 (get_or l i 0)) ≡ print2 240 ++ eights (take (i + 1) l)
+eights_put t l i h k e =
     let a = length_eights (take i l) in
     let b = length-take-le i l (omega arith) in
-    let c = eights_more l i h in
-    let d = ap length c ∙ length-append (eights (take i l)) (print8 (get_or l i 0)) in
+    let c = length-append (print2 240) (eights (take i l)) in
+    let d = length_print2 240 in
     let f = length_print8 (get_or l i 0) in
-    two_pieces w 2 (eights (take i l)) (print8 (get_or l i 0)) u _ (2 + 8 * i) e (omega arith) refl (omega (arith, length-append (eights (take i l)) (print8 (get_or l i 0)))) ∙ ap (splice w 2) (sym c)
+    let g = ap length e in
+    all_fits 516 t (print8 (get_or l i 0)) (omega arith)
+    ∙ ap (λ z. z ++ print8 (get_or l i 0)) e
+    ∙ append_assoc (print2 240) (eights (take i l)) (print8 (get_or l i 0))
+    ∙ ap (λ z. print2 240 ++ z) (sym (eights_more l i h))
 
 pub founding_length : (l : List ℕ) → length (founding_line l) ≡ 2 + 8 * length l + 1
 unfolding founding_line
@@ -74,18 +77,15 @@ founding_length l =
     let d = length_print2 240 in
     omega arith
 
-pub founding_put : (w t u v l : List ℕ) (i : ℕ) → i ≡ length l → 2 + 8 * length l + 1 ≤ length w → t ≡ splice w 0 (print2 240) → u ≡ splice t 2 (eights (take i l)) → v ≡ splice u (2 + 8 * i) (10 ∷ []) → v ≡ laid w (founding_line l)
+pub founding_put : (t l : List ℕ) (i : ℕ) → i ≡ length l → length l ≤ 64 → t ≡ print2 240 ++ eights (take i l) → take 516 (t ++ (10 ∷ [])) ≡ founding_line l
 unfolding founding_line
-founding_put w t u v l i e h p q r =
-    let x : u ≡ splice t 2 (eights l) = q ∙ ap (λ n. splice t 2 (eights (take n l))) e ∙ ap (λ s. splice t 2 (eights s)) (take-length l) in
+founding_put t l i e h f =
+    let g : t ≡ print2 240 ++ eights l = f ∙ ap (λ n. print2 240 ++ eights (take n l)) e ∙ ap (λ z. print2 240 ++ eights z) (take-length l) in
     let a = length_eights l in
-    let b = length-append (eights l) (10 ∷ []) in
-    three_pieces w 0 (print2 240) (eights l) (10 ∷ []) t u v 2 (2 + 8 * i) p refl x (omega arith) r (omega (arith, length-append (print2 240) (eights l ++ (10 ∷ []))))
-    ∙ laid_splice w (print2 240 ++ (eights l ++ (10 ∷ [])))
-    ∙ ap (laid w) (sym (append_assoc (print2 240) (eights l) (10 ∷ [])))
-
-pub founding_small : (l : List ℕ) → length l ≤ 64 → length (founding_line l) ≤ 516
-founding_small l h = let b = founding_length l in omega arith
+    let b = length-append (print2 240) (eights l) in
+    let c = length_print2 240 in
+    let d = ap length g in
+    all_fits 516 t (10 ∷ []) (omega arith) ∙ ap (λ z. z ++ (10 ∷ [])) g
 
 -- The same of what is held at the end.
 unfoldable pub rows_line : Bool → ℕ → List ℕ → List ℕ
@@ -112,11 +112,8 @@ rows_line_lem n l ids rows fits f r k e = rw f (go (every is_word l) refl)
     go false q = refl
 
 -- What is printed is the line of whatever reader is held.
-abbrev pub Printed : Hubs → List ℕ → List ℕ → ℕ → List ℕ → Type 0
-Printed h ids out count out' = (m : Reader) → Holds m h ids → (count ≡ length (hub_line (ended m))) × (out' ≡ laid out (hub_line (ended m)))
-
-pub printed_as : (h : Hubs) (ids out out' l : List ℕ) (count : ℕ) → count ≡ length l → out' ≡ laid out l → ((m : Reader) → Holds m h ids → l ≡ hub_line (ended m)) → Printed h ids out count out'
-printed_as h ids out out' l count e f g = λ m k. (e ∙ ap length (g m k), f ∙ ap (laid out) (g m k))
+abbrev pub Printed : Hubs → List ℕ → List ℕ → Type 0
+Printed h ids printed = (m : Reader) → Holds m h ids → printed ≡ hub_line (ended m)
 
 module _ (h : Hubs) (ids : List ℕ) (e : Ending) (is : e ≡ ending h.place) (m : Reader) (k : Holds m h ids) where
   ended_as_lem : ended m ≡ ended_as e m

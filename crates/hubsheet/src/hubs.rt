@@ -2,7 +2,7 @@
 // length costs no more room than this.
 ghost use Rattle.std.specs.Prelude.{◌≡◌, ◌+◌, min, set};
 ghost use Rattle.std.specs.Option.{unwrap_or};
-ghost use Rattle.hubsheet.specs.Held.{grown as grown_spec, after_spec, kept_by, Begun, Fed, Feeds};
+ghost use Rattle.hubsheet.specs.Held.{grown as grown_spec, Begun, Fed, Feeds};
 
 use crate::places::{effect, next};
 use sheets::{Effect, Place};
@@ -34,24 +34,6 @@ pub fn counted(rows: usize) -> usize
     ensures { result ≡ min (rows + 1) 65 }
 {
     rows.min(PLACES) + 1
-}
-
-// What is kept behind a byte, by its effect.
-#[tactic(auto, unfolding(crate::specs::Held::after_spec))]
-fn after(e: Effect, h: Hubs, q: Place, b: u8) -> Hubs
-    ensures { result ≡ after_spec e h q b }
-{
-    let mut moved = Hubs { place: q, ..h };
-    match e {
-        Effect::Quiet | Effect::Letter => {}
-        Effect::EndName => moved.value = Some(0),
-        Effect::Figure => moved.value = grown(h.value, b),
-        Effect::EndRow => {
-            moved.rows = counted(h.rows);
-            moved.fits &= h.value.is_some();
-        }
-    }
-    moved
 }
 
 // All that is held of a sheet: where it stands, and the identifiers of its rows.
@@ -87,24 +69,22 @@ impl Held {
         }
     }
 
-    #[tactic(auto, unfolding(crate::specs::Held::kept_by))]
-    fn keep_by(&mut self, e: Effect)
-        ensures hubs { self.new.hubs ≡ self.old.hubs }
-        ensures identifiers { self.new.identifiers ≡ kept_by e self.old.identifiers self.old.hubs.rows self.old.hubs.value }
-    {
-        if let Effect::EndRow = e {
-            self.keep();
-        }
-    }
-
-    // A byte more.
+    // A byte more, by the effect of the place that it leads to.
+    #[tactic(auto, unfolding(crate::specs::Held::after_spec, crate::specs::Held::kept_by))]
     fn step(&mut self, b: u8)
         ensures { Fed self.old.hubs self.old.identifiers b self.new.hubs self.new.identifiers }
     {
-        let q = next(self.hubs.place, b);
-        let e = effect(q);
-        self.keep_by(e);
-        self.hubs = after(e, self.hubs, q, b);
+        self.hubs.place = next(self.hubs.place, b);
+        match effect(self.hubs.place) {
+            Effect::Quiet | Effect::Letter => {}
+            Effect::EndName => self.hubs.value = Some(0),
+            Effect::Figure => self.hubs.value = grown(self.hubs.value, b),
+            Effect::EndRow => {
+                self.keep();
+                self.hubs.rows = counted(self.hubs.rows);
+                self.hubs.fits &= self.hubs.value.is_some();
+            }
+        }
     }
 
     // A piece of the sheet more.

@@ -8,7 +8,7 @@ mod places;
 
 ghost use Rattle.hubsheet.specs.Held.{Taken};
 
-use crate::frame::{LINE, put_line};
+use crate::frame::line_of;
 use crate::hubs::Held;
 use console::{Arrival, Console};
 
@@ -24,13 +24,14 @@ fn take_some(console: Console, held: &mut Held, input: &mut [u8]) -> Arrival
     arrival
 }
 
-// Whether the run goes on. At the end of the input the line is printed; where a read failed, which is told, nothing is.
-fn goes_on(console: Console, arrival: Arrival, held: &mut Held, out: &mut [u8; LINE]) -> bool {
+// Whether the run goes on. At the end of the input the line is printed; where a read failed, which is told, nothing is. (Not one match with `take_some`,
+// whose contract says what the read did to what is held, by what it brought.)
+fn goes_on(console: Console, arrival: Arrival, held: &mut Held) -> bool {
     match arrival {
         Arrival::Bytes(_) => true,
         Arrival::End => {
-            let count = put_line(held, out);
-            console.send(&out[..count]);
+            let line = line_of(held);
+            console.send(line.as_slice());
             false
         }
         Arrival::Failed => false,
@@ -38,11 +39,11 @@ fn goes_on(console: Console, arrival: Arrival, held: &mut Held, out: &mut [u8; L
 }
 
 // A proved loop has to end, and nothing says that the input does. No run uses up its turns.
-fn run(console: Console, input: &mut [u8], out: &mut [u8; LINE]) {
+fn run(console: Console, input: &mut [u8]) {
     let mut held = Held::begun();
     for _ in 0..u64::MAX {
         let arrival = take_some(console, &mut held, input);
-        if !goes_on(console, arrival, &mut held, out) {
+        if !goes_on(console, arrival, &mut held) {
             return;
         }
     }
@@ -50,10 +51,9 @@ fn run(console: Console, input: &mut [u8], out: &mut [u8; LINE]) {
 
 fn main(rt: HostRuntime) {
     let mut input = io::large_buffer();
-    let mut out = [0u8; LINE];
     let console = Console {
         rt: &rt,
         name: b"hubsheet",
     };
-    run(console, &mut input, &mut out);
+    run(console, &mut input);
 }

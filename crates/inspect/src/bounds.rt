@@ -1,6 +1,6 @@
 // How much there is of everything.
-use console::Begun;
 use protocol::form::RECORD_WORDS;
+use texts::Text;
 
 // The record, and two words behind it.
 pub const KEPT_WORDS: usize = RECORD_WORDS + 2;
@@ -14,4 +14,4 @@ pub const FRAME_BYTES: usize = 514;
 pub const KEPT_BYTES: usize = FRAME_BYTES + 1;
 
 // More bytes than the longest answer, that of 256 waiting questions.
-pub type AnswerText = Begun<32768>;
+pub type AnswerText = Text<32768>;

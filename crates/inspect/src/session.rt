@@ -37,17 +37,7 @@ impl Session {
     pub fn new() -> Self {
         Session {
             record: [0; KEPT_WORDS],
-            tally: Tally {
-                quiet: 0,
-                found: 0,
-                entered: 0,
-                gone: 0,
-                join_turned_away: 0,
-                leave_turned_away: 0,
-                joined: 0,
-                left: 0,
-                refused: 0,
-            },
+            tally: Tally::default(),
             lent: RECORD_WORDS,
         }
     }

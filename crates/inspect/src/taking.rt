@@ -1,14 +1,15 @@
 // The bytes of a read, line by line. An answer is written before the next line is looked at.
 use crate::bounds::{AnswerText, KEPT_BYTES};
 use crate::session::Session;
-use console::{Arrival, Begun, Console};
+use console::{Arrival, Console};
 use std::fmt::Write;
+use texts::Text;
 
 // The session, the line that has begun, and room for an answer.
 #[derive(Drop)]
 pub struct Desk {
     session: Session,
-    line: Begun<KEPT_BYTES>,
+    line: Text<KEPT_BYTES>,
     text: AnswerText,
 }
 
@@ -16,7 +17,7 @@ impl Desk {
     pub fn new() -> Self {
         Desk {
             session: Session::new(),
-            line: Begun::new(),
+            line: Text::new(),
             text: AnswerText::new(),
         }
     }

@@ -1,7 +1,7 @@
 // The waiting messages, which no public call hands out: they are read where the record is well formed.
 use protocol::Refusal;
-use protocol::form::{MESSAGE_WORDS, MESSAGES_AT, RECORD_WORDS};
-use wellformed::well_formed;
+use protocol::form::{MESSAGE_WORDS, MESSAGES_AT};
+use wellformed::questions;
 use wording::Waiting;
 
 // The words of m messages. A record that is well formed has them all, so that nothing is cut.
@@ -11,11 +11,6 @@ fn message_words(w: &[u32], m: u32) -> &[u32] {
 }
 
 pub fn waiting(w: &[u32]) -> Result<Waiting<'_>, Refusal> {
-    if w.len() < RECORD_WORDS {
-        return Err(Refusal::RecordShort);
-    }
-    if !well_formed(w) {
-        return Err(Refusal::NotWellFormed);
-    }
+    questions(w)?;
     Ok(Waiting(message_words(w, w[2])))
 }

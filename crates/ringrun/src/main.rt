@@ -2,13 +2,14 @@
 // proved in `stream`; here they are only carried in and out.
 #![tactic(auto)]
 
-ghost use Rattle.std.specs.Prelude.{◌≡◌, [], ◌≤◌, length, take, replicate};
+ghost use Rattle.std.specs.Prelude.{◌≡◌, [], replicate};
 ghost use Rattle.protocol.specs.Record.{record_size};
 ghost use Rattle.ringrun.specs.Turns.{turned};
 
-use console::{Arrival, Begun, Console};
+use console::{Arrival, Console};
 use protocol::form::RECORD_WORDS;
 use stream::{KEPT, finish, take_bytes};
+use texts::Text;
 
 // A larger block makes no fewer calls that matter, and a smaller one does cost time.
 const INPUT_BYTES: usize = 8192;
@@ -20,22 +21,20 @@ const OUTPUT_BYTES: usize = 204800;
 #[derive(Drop)]
 struct Run {
     record: [u32; RECORD_WORDS],
-    line: Begun<KEPT>,
+    line: Text<KEPT>,
     input: [u8; INPUT_BYTES],
-    out: [u8; OUTPUT_BYTES],
-    waiting: usize,
-    ghost room: { waiting ≤ 204800 },
+    out: Text<OUTPUT_BYTES>,
 }
 
 impl Run {
     // One read, and the answers to every line that it ends.
     fn take_some(&mut self, console: Console) -> Arrival
-        ensures { turned self.old.record self.old.line self.new.input result ≡ record { slice = self.new.record; begun = self.new.line; printed = take self.new.waiting self.new.out } }
+        ensures { turned self.old.record self.old.line self.new.input result ≡ record { slice = self.new.record; begun = self.new.line; printed = self.new.out } }
     {
         let arrival = console.receive(&mut self.input);
         match arrival {
             Arrival::Bytes(n) => {
-                self.waiting = take_bytes(
+                take_bytes(
                     &mut self.record,
                     &mut self.line,
                     &mut self.out,
@@ -43,18 +42,19 @@ impl Run {
                 );
             }
             Arrival::End => {
-                self.waiting = finish(&mut self.record, self.line.as_slice(), &mut self.out);
+                finish(&mut self.record, self.line.as_slice(), &mut self.out);
                 self.line.clear();
             }
-            Arrival::Failed => self.waiting = 0,
+            Arrival::Failed => self.out.clear(),
         }
         arrival
     }
 
     // Whether the run goes on. The answers are written before the next read: whoever waits at the other end of a modem gets them now. Where they
-    // cannot be written it ends, since nobody would see the later ones.
+    // cannot be written it ends, since nobody would see the later ones. (Not one match with `take_some`, whose contract says what the read did to the
+    // record, the line and the answers, by what it brought.)
     fn goes_on(&self, console: Console, arrival: Arrival) -> bool {
-        let is_written = console.send(&self.out[..self.waiting]);
+        let is_written = console.send(self.out.as_slice());
         match arrival {
             Arrival::Bytes(_) => is_written,
             Arrival::End => false,
@@ -85,10 +85,9 @@ fn begun() -> Run
 {
     Run {
         record: [0; RECORD_WORDS],
-        line: Begun::new(),
+        line: Text::new(),
         input: [0; INPUT_BYTES],
-        out: [0; OUTPUT_BYTES],
-        waiting: 0,
+        out: Text::new(),
     }
 }
 

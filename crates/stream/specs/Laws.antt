@@ -1,25 +1,19 @@
 -- What the code does on its lists, as the meaning has it. Assumes nothing.
-use Rattle.std.specs.Prelude.{◌≡◌, refl, Bool, true, false, List, [], ◌∷◌, ◌++◌, ℕ, ◌+◌, ◌-◌, ◌≤◌, length, take, drop, nat_eq}
-use Rattle.std.proofs.Common.{ap, sym, ◌∙◌, arith, drop-drop, take_all}
-use Rattle.std.proofs.lemmas.Slice.{take-put_mid, drop-put_mid}
-use borrow.Rule.Slice.PartMut.{put_mid}
+use Rattle.std.specs.Prelude.{◌≡◌, refl, Bool, true, false, List, [], ◌∷◌, ◌++◌, ℕ, ◌+◌, ◌≤◌, length, take, nat_eq}
+use Rattle.std.proofs.Common.{ap, sym, ◌∙◌, take_all}
 use borrow.Author.Tests.{ne_eqb}
 use Rattle.lists.specs.Basics.{when◌then◌else◌}
 use Rattle.protocol.specs.Frames.{line_call}
-use Rattle.console.specs.Lines.{Gathering, kept, gathered}
+use Rattle.texts.specs.Laws.{all_fits}
+use Rattle.texts.specs.Lines.{Gathering, kept, gathered}
 use Rattle.protocol.specs.Ringrun.{Standing, line_ended, byte_fed, fed, ended}
 use Rattle.stream.specs.Pieces.{cut, cut_fed}
 
--- the answer to a line stands behind those that wait
-module _ (w l after out text : List ℕ) (waiting n : ℕ)
-    (called : line_call w l ≡ record { printed = text; slice = after })
-    (room : waiting ≤ length out) (size : length text ≡ n) where
-  pub answered : line_ended (record { slice = w; begun = l; printed = take waiting out }) ≡ record { slice = after; begun = []; printed = take (waiting + n) (put_mid waiting n out text) }
-  unfolding line_ended
-  answered = rw (called, take-put_mid waiting n out text (waiting + n) (omega arith) room)
-
-  pub rest_kept : drop (waiting + n) (put_mid waiting n out text) ≡ drop (waiting + n) out
-  rest_kept = drop-put_mid waiting n out text (waiting + n) (omega arith) room size
+-- the answer to a line stands behind those that wait, where there is room for it
+pub answered : (n : ℕ) (w l after out text : List ℕ) → line_call w l ≡ record { printed = text; slice = after } → length out + length text ≤ n
+    → line_ended (record { slice = w; begun = l; printed = out }) ≡ record { slice = after; begun = []; printed = take n (out ++ text) }
+unfolding line_ended
+answered n w l after out text called room = rw (called, all_fits n out text room)
 
 -- A line is gathered up to its LF and then ends; or the input ends first.
 unfoldable resumed : Standing → Gathering → Standing
@@ -67,12 +61,6 @@ module _ (w line : List ℕ) where
       → ended (record { slice = w; begun = line; printed = [] }) ≡ after
   unfolding ended when◌then◌else◌
   last_line h after a = rw (ne_eqb (length line) 0 h) a
-
--- from turn to turn
-pub drop_further : (a b : ℕ) (l m : List ℕ) → a ≤ b → drop a l ≡ drop a m → drop b l ≡ drop b m
-drop_further a b l m h e =
-    let s : b ≡ a + (b - a) = omega arith in
-    rw s (sym (drop-drop (b - a) a l) ∙ ap (drop (b - a)) e ∙ drop-drop (b - a) a m)
 
 -- the last turn
 pub all_taken : (w line printed : List ℕ) → length line ≤ 515 → cut (fed (record { slice = w; begun = line; printed = printed }) []) ≡ record { slice = w; begun = line; printed = printed }

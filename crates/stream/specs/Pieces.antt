@@ -5,7 +5,7 @@ use mathlib.Core.List.{List, [], ◌∷◌, ◌++◌, append_assoc, append-nil, 
 use Rattle.lists.specs.Basics.{when◌then◌else◌}
 use Rattle.protocol.specs.Record.{record_size}
 use Rattle.frames.specs.Lines.{enough}
-use Rattle.console.specs.Laws.{take_more}
+use Rattle.texts.specs.Laws.{take_more}
 use Rattle.protocol.specs.Ringrun.{lines_of, answers, ringrun, Standing, line_ended, byte_fed, fed, ended}
 
 -- Of a line that has begun the first 515 bytes are kept, one more than a frame can have.

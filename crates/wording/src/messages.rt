@@ -37,14 +37,15 @@ impl fmt::Display for Waiting<'_> {
         let (messages, _) = self.0.as_chunks::<MESSAGE_WORDS>();
         let questions = messages.iter().filter(|m| m[0] == kinds::LOOKUP).count();
         write!(f, "messages {}, questions {questions}", messages.len())?;
-        for [kind, from, to, a, b, hops] in messages {
+        for message in messages {
+            let [kind, from, to, a, b, hops] = *message;
             let message = Message {
-                kind: *kind,
-                from: *from,
-                to: *to,
-                a: *a,
-                b: *b,
-                hops: *hops,
+                kind,
+                from,
+                to,
+                a,
+                b,
+                hops,
             };
             write!(f, "\n{}", Sent(message))?;
         }

@@ -10,7 +10,7 @@ returns-then-b-lt48 c = simp (lt-ltb _ _ c.if-b-lt48.true)
 
 pub returns-then-b-lt58 : goal.returns-then-b-lt58
 unfolding digit_value when◌then◌else◌
-returns-then-b-lt58 c = simp (lt-ltb _ _ c.if-b-lt58.true, le-ltb _ _ c.if-b-lt48.false)
+returns-then-b-lt58 c = simp (lt-ltb _ _ c.if-b-lt58.true, le-ltb _ _ c.if-b-lt48.false) c.from.ensures
 
 pub returns-then-b-lt65 : goal.returns-then-b-lt65
 unfolding digit_value when◌then◌else◌
@@ -18,7 +18,7 @@ returns-then-b-lt65 c = simp (lt-ltb _ _ c.if-b-lt65.true, le-ltb _ _ c.if-b-lt5
 
 pub returns-then-b-lt71 : goal.returns-then-b-lt71
 unfolding digit_value when◌then◌else◌
-returns-then-b-lt71 c = simp (lt-ltb _ _ c.if-b-lt71.true, le-ltb _ _ c.if-b-lt65.false, le-ltb _ _ c.if-b-lt58.false, le-ltb _ _ c.if-b-lt48.false)
+returns-then-b-lt71 c = simp (lt-ltb _ _ c.if-b-lt71.true, le-ltb _ _ c.if-b-lt65.false, le-ltb _ _ c.if-b-lt58.false, le-ltb _ _ c.if-b-lt48.false) c.from-then-b-lt71.ensures
 
 pub returns : goal.returns
 unfolding digit_value when◌then◌else◌

@@ -8,4 +8,4 @@ returns-in-Err c = simp (c.in-Err.is, ← c.from.ensures) c.refusal_line.ensures
 
 pub returns-in-Ok : goal.returns-in-Ok
 unfolding outcome_text
-returns-in-Ok c = simp (c.in-Ok.is, ← c.answer_words.ensures) c.fields_line.ensures
+returns-in-Ok c = simp (c.in-Ok.is, ← c.from-in-Ok.ensures) c.fields_line.ensures

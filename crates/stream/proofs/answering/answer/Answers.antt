@@ -1,23 +1,18 @@
--- `answer`: what is printed for the line is copied behind what waits. Assumes nothing.
+-- `answer`: what is printed for the line goes behind what waits. Assumes nothing.
 use native.Mathlib.Omega.{arith}
-use mathlib.Core.Path.{◌≡◌, refl}
-use Prim.Native.Nat.{◌+◌, ◌-◌, ◌≤◌}
-use lib.ListN.{length}
-use Rattle.stream.specs.Laws.{answered, rest_kept}
+use Prim.Native.Nat.{◌≤◌}
+use lib.ListN.{length, length-take}
+use Rattle.std.proofs.Common.{length-append}
+use Rattle.stream.specs.Laws.{answered}
 use Rattle.stream.proofs.answering.answer.Goals as goal
 
 pub returns : goal.returns
-returns c =
+returns g c =
     let a = c.args in
     let p = c.answer_line-printed in
     let t = c.as_slice-text.ensures in
-    let n = length p.result in
-    let room : a.waiting ≤ length a.out.now = omega arith in
-    let e : a.waiting + n - a.waiting ≡ n = omega arith in
-    let few : n ≤ 25 = rw t.bytes at t.few in
-    rw (c.copy_from_slice.ensures.after, t.bytes, e) (
-      answered a.w.now a.line.now p.new.w a.out.now p.result a.waiting n p.ensures room refl,
-      omega arith,
-      omega arith,
-      rest_kept a.w.now a.line.now p.new.w a.out.now p.result a.waiting n p.ensures room refl,
-    )
+    let few : length p.result ≤ 25 = rw t.bytes at t.few in
+    record {
+      ended = rw (c.push.ensures.kept, t.bytes) (answered g.row.OUT a.w.now a.line.now p.new.w a.out.now p.result p.ensures (omega arith));
+      few = rw (c.push.ensures.kept, t.bytes) (simp (length-take, length-append) (omega arith));
+    }
