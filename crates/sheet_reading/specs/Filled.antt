@@ -1,9 +1,10 @@
 -- What the reading calls give, question by question, and the rows that fill the lent buffers. Assumes nothing.
 use Rattle.std.proofs.Math.Path.{◌≡◌, refl, ap, ap₂, sym}
 use Rattle.std.proofs.Common.{◌∙◌, le-leb}
-use Rattle.std.specs.Option.{ok_or}
+use Rattle.std.specs.Option.{ok_or, is_some}
+use Rattle.lists.specs.Merge.{every_append}
 use Rattle.protocol.specs.declared.refusal.Refusal.{Refusal}
-use Rattle.std.specs.Prelude.{Option, Some, None, Ok, Err, Bool, true, false, ◌&&◌, List, [], ◌∷◌, ◌++◌, ℕ, ◌+◌, ◌*◌, ◌≤◌, ◌<◌, min, length}
+use Rattle.std.specs.Prelude.{Option, Some, None, IsSome, Ok, Err, Bool, true, false, ◌&&◌, List, [], ◌∷◌, ◌++◌, ℕ, ◌+◌, ◌*◌, ◌≤◌, ◌<◌, length}
 use native.Mathlib.Omega.{arith}
 use Rattle.std.proofs.lemmas.Bool.{lt-leb}
 use Rattle.std.proofs.Common.{nat_le}
@@ -20,12 +21,13 @@ use Rattle.sheet_reading.specs.declared.RowPut.{RowPut}
 use Rattle.sheets.specs.declared.Place.TheVariants.{Start}
 use Rattle.sheets.specs.Reader.{Said, nothing, lists, fresh, reading, ending, ended_as}
 use Rattle.sheets.specs.Calls.{done, laid, is_word, SheetRead, unread, read_into}
-use Rattle.sheets.specs.Words.{word, words, length_words, words_append, words_same, cap_word, every_one}
+use Rattle.sheets.specs.Words.{every_one}
+use Rattle.sheets.specs.Bytes.{and_first, and_second}
 use Rattle.sheets.specs.Laying.{laid_none, laid_more}
 use Rattle.sheets.proofs.Sound.{same_lists}
 use Rattle.sheet_reading.specs.Carried.{Forms}
-use Rattle.sheet_reading.specs.Onward.{onward, onward_end, onward_grows}
-use Rattle.sheet_reading.specs.Judged.{RowIs}
+use Rattle.sheet_reading.specs.Onward.{onward, onward_end, Grown, onward_grown}
+use Rattle.sheet_reading.specs.Judged.{word_some, word_is, RowIs}
 use Rattle.sheet_reading.specs.Put.{Readable, RowPutIs}
 
 abbrev sheet : ℕ → ℕ → Bool → Sheet
@@ -56,7 +58,7 @@ length_one : (l : List ℕ) (v : ℕ) → length (l ++ (v ∷ [])) ≡ length l 
 length_one l v = length-append l (v ∷ [])
 
 module _ (t : List ℕ) (i rows bytes : ℕ) (fits : Bool) (c : Counted t i rows bytes fits) where
-  pub counted_row : (x : Row) → RowIs t i (Some x) → Counted t x.end (rows + 1) (bytes + x.bytes) (fits && nat_le x.value 4294967295)
+  pub counted_row : (x : Row) → RowIs t i (Some x) → Counted t x.end (rows + 1) (bytes + x.bytes) (fits && is_some x.value)
   unfolding RowIs is_word
   counted_row x r =
       let a = r.ahead in
@@ -75,7 +77,7 @@ module _ (t : List ℕ) (i rows bytes : ℕ) (fits : Bool) (c : Counted t i rows
         within = r.within;
         counts = omega arith;
         sizes = omega arith;
-        fitting = ap₂ (λ p q. p && q) c.fitting (ap (λ z. nat_le z 4294967295) r.kept ∙ cap_word r.number) ∙ sym (every_one is_word c.numbers r.number);
+        fitting = ap₂ (λ p q. p && q) c.fitting (ap (λ z. is_some z) r.kept ∙ word_some r.number) ∙ sym (every_one is_word c.numbers r.number);
         below = (omega arith, omega arith);
       }
 
@@ -114,9 +116,14 @@ pub sheet_none : (o : Option Sheet) (k e : Refusal) → Err e ≡ ok_or o k → 
 sheet_none None k x e = refl
 sheet_none (Some y) k x e = cc
 
--- The sheet's lists fit into buffers of these lengths.
-abbrev pub Roomy : Said → (List ℕ → List ℕ) → ℕ → ℕ → Type 0
-Roomy s form k l = (n : List ℕ) × (i : List ℕ) × (s ≡ lists n i) × (length (form i) ≤ k) × (length n ≤ l)
+-- The sheet's identifiers are words, and its lists fit into buffers of these lengths.
+pub record Roomy (s : Said) (form : List ℕ → List ℕ) (k l : ℕ) : Type 0 where
+  pub n : List ℕ
+  pub i : List ℕ
+  pub is : s ≡ lists n i
+  pub words : every is_word i ≡ true
+  pub ids_fit : length (form i) ≤ k
+  pub names_fit : length n ≤ l
 
 module _ (form : List ℕ → List ℕ) where
   pub read_none : (ids names : List ℕ) (s : Said) → None ≡ judged s → read_into form ids names s ≡ unread ids names NoSheet
@@ -163,9 +170,9 @@ module _ (form : List ℕ → List ℕ) where
             omega arith
 
         pub roomy : Roomy s form (length ids) (length names)
-        roomy = let y = a.bytes in (a.n, a.i, a.is, h, omega arith)
+        roomy = let y = a.bytes in record { n = a.n; i = a.i; is = a.is; words = fits; ids_fit = h; names_fit = omega arith }
 
-        pub all_read : (u w : List ℕ) → ((n c : List ℕ) → s ≡ lists n c → (u ≡ laid ids (form (words c))) × (w ≡ laid names n)) → read_into form ids names s ≡ record { outcome = done x.rows x.bytes; identifiers = u; names = w }
+        pub all_read : (u w : List ℕ) → ((n c : List ℕ) → s ≡ lists n c → (u ≡ laid ids (form c)) × (w ≡ laid names n)) → read_into form ids names s ≡ record { outcome = done x.rows x.bytes; identifiers = u; names = w }
         all_read u w f =
             let z = a.rows in
             let y = a.bytes in
@@ -173,11 +180,11 @@ module _ (form : List ℕ → List ℕ) where
             rest_of _ (
             on_yes _ _ _ (rw (le-leb (length (form a.i)) (length ids) h, le-leb (length a.n) (length names) (omega arith)))
             ∙ ap₂ (λ p q. record { outcome = done p q; identifiers = laid ids (form a.i); names = laid names a.n }) (sym z) (sym y)
-            ∙ ap₂ (λ p q. record { outcome = done x.rows x.bytes; identifiers = p; names = q }) (sym (g.0 ∙ ap (λ z. laid ids (form z)) (words_same a.i fits))) (sym g.1))
+            ∙ ap₂ (λ p q. record { outcome = done x.rows x.bytes; identifiers = p; names = q }) (sym g.0) (sym g.1))
 
 -- All that a sheet says is in the buffers.
 abbrev pub AllFilled : (List ℕ → List ℕ) → List ℕ → List ℕ → List ℕ → List ℕ → List ℕ → Type 0
-AllFilled form t ids₀ names₀ ids names = (n c : List ℕ) → reading t ≡ lists n c → (ids ≡ laid ids₀ (form (words c))) × (names ≡ laid names₀ n)
+AllFilled form t ids₀ names₀ ids names = (n c : List ℕ) → reading t ≡ lists n c → (ids ≡ laid ids₀ (form c)) × (names ≡ laid names₀ n)
 
 -- Filling: the rows up to i are written.
 pub record Filled (form : List ℕ → List ℕ) (t ids₀ names₀ ids names : List ℕ) (row at i : ℕ) : Type 0 where
@@ -188,12 +195,12 @@ pub record Filled (form : List ℕ → List ℕ) (t ids₀ names₀ ids names : 
   pub within : i ≤ length t
   pub here : at ≡ length said
   pub count : row ≡ length numbers
-  pub ids_are : ids ≡ laid ids₀ (form (words numbers))
+  pub ids_are : ids ≡ laid ids₀ (form numbers)
   pub names_are : names ≡ laid names₀ said
 
 module _ (form : List ℕ → List ℕ) (each : ℕ) (laws : Forms form each) (t ids₀ names₀ : List ℕ) where
   pub filled_none : Filled form t ids₀ names₀ ids₀ names₀ 0 0 0
-  unfolding reading onward fresh words
+  unfolding reading onward fresh
   filled_none = record {
     said = [];
     numbers = [];
@@ -212,11 +219,11 @@ module _ (form : List ℕ → List ℕ) (each : ℕ) (laws : Forms form each) (t
       names = f.said;
       numbers = f.numbers;
       value = f.value;
-      all_names = room.0;
-      all_numbers = room.1;
-      says = sym f.says ∙ room.2;
+      all_names = room.n;
+      all_numbers = room.i;
+      says = sym f.says ∙ room.is;
       here = f.here;
-      fits = room.4;
+      fits = room.names_fit;
     }
 
     module _ (names' : List ℕ) (p : RowPut) (r : RowPutIs t i names at names' p) where
@@ -226,30 +233,41 @@ module _ (form : List ℕ → List ℕ) (each : ℕ) (laws : Forms form each) (t
       pub row_said : reading t ≡ onward t Start (f.said ++ (r.name ++ (0 ∷ []))) numbers' r.number p.end
       row_said = f.says ∙ r.leads f.said f.numbers f.value
 
+      row_grown : Grown (f.said ++ (r.name ++ (0 ∷ []))) numbers' room.n room.i
+      row_grown = onward_grown t Start (f.said ++ (r.name ++ (0 ∷ []))) numbers' r.number p.end room.n room.i (sym row_said ∙ room.is)
+
       -- there is a place for the number
-      pub row_there : row + 1 ≤ length room.1
+      pub row_there : row + 1 ≤ length room.i
       row_there =
-          let g = (onward_grows t Start (f.said ++ (r.name ++ (0 ∷ []))) numbers' r.number p.end room.0 room.1 (sym row_said ∙ room.2)).1 in
+          let g = ap length row_grown.numbers ∙ length-append numbers' row_grown.more_numbers in
           let l = length_one f.numbers r.number in
           let c = f.count in
           omega arith
+
+      -- and it is a word, as all numbers are
+      number_word : is_word r.number ≡ true
+      number_word =
+          let g = sym (every_append is_word numbers' row_grown.more_numbers) ∙ sym (ap (every is_word) row_grown.numbers) ∙ room.words in
+          and_second (every is_word f.numbers) (is_word r.number) (sym (every_one is_word f.numbers r.number) ∙ and_first (every is_word numbers') (every is_word row_grown.more_numbers) g)
+
+      pub value_there : IsSome p.value
+      value_there = ap (λ z. is_some z) r.kept ∙ word_some r.number ∙ number_word
 
       -- and room
       pub row_room : each * (row + 1) ≤ length ids₀
       row_room =
           let r = mul-le-mul_left each row_there in
-          let s = laws.size room.1 in
-          let h = room.3 in
+          let s = laws.size room.i in
+          let h = room.ids_fit in
           omega arith
 
-      word_kept : min p.value 4294967295 ≡ word r.number
-      word_kept = let e = r.kept in omega arith
+      value_is : (v : ℕ) → p.value ≡ Some v → v ≡ r.number
+      value_is v e = word_is r.number v (sym r.kept ∙ e)
 
       -- the number is written behind those before
-      pub filled_row : (ids' : List ℕ) → ids' ≡ splice ids (each * row) (form (min p.value 4294967295 ∷ [])) → Filled form t ids₀ names₀ ids' names' (row + 1) p.at p.end
-      unfolding words
-      filled_row ids' e =
-          let here : each * row ≡ length (form (words f.numbers)) = ap (λ x. each * x) (f.count ∙ sym (length_words f.numbers)) ∙ sym (laws.size (words f.numbers)) in
+      pub filled_row : (v : ℕ) → p.value ≡ Some v → (ids' : List ℕ) → ids' ≡ splice ids (each * row) (form (v ∷ [])) → Filled form t ids₀ names₀ ids' names' (row + 1) p.at p.end
+      filled_row v q ids' e =
+          let here : each * row ≡ length (form f.numbers) = ap (λ x. each * x) f.count ∙ sym (laws.size f.numbers) in
           let b = r.behind in
           let h = f.here in
           let l = length-append f.said (r.name ++ (0 ∷ [])) in
@@ -265,9 +283,9 @@ module _ (form : List ℕ → List ℕ) (each : ℕ) (laws : Forms form each) (t
             here = omega arith;
             count = omega arith;
             ids_are =
-                e ∙ ap₂ (λ x v. splice x (each * row) (form (v ∷ []))) f.ids_are word_kept
-                ∙ laid_more ids₀ (form (words f.numbers)) (form (word r.number ∷ [])) (each * row) here
-                ∙ ap (laid ids₀) (sym (ap form (words_append f.numbers (r.number ∷ [])) ∙ laws.join (words f.numbers) (word r.number ∷ [])));
+                e ∙ ap₂ (λ x z. splice x (each * row) (form (z ∷ []))) f.ids_are (value_is v q)
+                ∙ laid_more ids₀ (form f.numbers) (form (r.number ∷ [])) (each * row) here
+                ∙ ap (laid ids₀) (sym (laws.join f.numbers (r.number ∷ [])));
             names_are = r.written ∙ ap (λ x. splice x at (r.name ++ (0 ∷ []))) f.names_are ∙ laid_more names₀ f.said (r.name ++ (0 ∷ [])) at f.here;
           }
 
@@ -275,4 +293,4 @@ module _ (form : List ℕ → List ℕ) (each : ℕ) (laws : Forms form each) (t
     unfolding ended_as ending
     filled_all h n c e =
         let q = same_lists n c f.said f.numbers (sym e ∙ f.says ∙ onward_end t Start f.said f.numbers f.value i h) in
-        (f.ids_are ∙ ap (λ z. laid ids₀ (form (words z))) q.1, f.names_are ∙ ap (laid names₀) q.0)
+        (f.ids_are ∙ ap (λ z. laid ids₀ (form z)) q.1, f.names_are ∙ ap (laid names₀) q.0)

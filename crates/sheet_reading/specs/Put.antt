@@ -27,7 +27,7 @@ use Rattle.sheet_reading.specs.Runs.{between, between_none, between_more, length
 use Rattle.sheet_reading.specs.Nexts
 use Rattle.sheet_reading.specs.Onward.{onward, onward_end, onward_wrong, onward_closed, onward_letter, onward_quoted, onward_number, onward_as, names_over, plain_stays, quoted_stays, plain_over, quoted_over, onward_grows}
 use Rattle.sheets.specs.Laying.{splice_none, splice_one, splice_twice, length_splice}
-use Rattle.sheet_reading.specs.Judged.{capped, NumberIs, EndIs, opened_name}
+use Rattle.sheet_reading.specs.Judged.{word_of, NumberIs, EndIs, opened_name}
 
 -- A reader at this place of the text that has said names of `at` bytes, and reads on to the end: all names have this room.
 pub record Readable (t : List ℕ) (p : Place) (i at room : ℕ) : Type 0 where
@@ -152,7 +152,7 @@ pub record RowPutIs (t : List ℕ) (i : ℕ) (names₀ : List ℕ) (at : ℕ) (n
   pub ahead : i < r.end
   pub within : r.end ≤ length t
   pub behind : r.at ≡ at + (length name + 1)
-  pub kept : r.value ≡ capped number
+  pub kept : r.value ≡ word_of number
   pub written : names ≡ splice names₀ at (name ++ (0 ∷ []))
   pub leads : (n c : List ℕ) (v : ℕ) → onward t Start n c v i ≡ onward t Start (n ++ (name ++ (0 ∷ []))) (c ++ (number ∷ [])) number r.end
 

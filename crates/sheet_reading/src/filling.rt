@@ -8,7 +8,7 @@ use crate::copying::copy_row;
 use crate::identifiers::Identifier;
 use crate::judging::judge;
 use protocol::Refusal;
-use sheets::{Counts, word_of};
+use sheets::Counts;
 
 fn fill<T: Identifier>(text: &[u8], identifiers: &mut [T], names: &mut [u8])
     requires { Roomy (reading text.now) T.form (length (T.held identifiers.old)) (length names.old) }
@@ -20,7 +20,7 @@ fn fill<T: Identifier>(text: &[u8], identifiers: &mut [T], names: &mut [u8])
     // No `for`: a step is a row of the text.
     while i < text.len() {
         let r = copy_row(text, i, names, at);
-        T::put(identifiers, row, word_of(r.value));
+        T::put(identifiers, row, r.value.unwrap());
         row += 1;
         at = r.at;
         i = r.end;

@@ -51,7 +51,7 @@ pub(crate) fn judge(text: &[u8]) -> Option<Sheet>
         let row = kinds.row_at(text, i)?;
         rows += 1;
         bytes += row.bytes;
-        fits = fits & (row.value <= 4294967295);
+        fits = fits & row.value.is_some();
         i = row.end;
     }
     Some(Sheet { rows, bytes, fits })

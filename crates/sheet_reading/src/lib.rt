@@ -20,11 +20,11 @@ pub struct Name {
     pub bytes: usize,
 }
 
-// Digits one after the other: where they end, and the number that they make, up to 2^32, which is already too large for an identifier.
+// Digits one after the other: where they end, and the identifier that they make; none where the number is too large for one.
 #[derive(Clone, Copy)]
 pub struct Run {
     pub end: usize,
-    pub value: usize,
+    pub value: Option<u32>,
 }
 
 // A row: where the next one begins, and what name and number are as above.
@@ -32,7 +32,7 @@ pub struct Run {
 pub struct Row {
     pub end: usize,
     pub bytes: usize,
-    pub value: usize,
+    pub value: Option<u32>,
 }
 
 // A sheet of so many rows and bytes of names, whose identifiers all fit a word or not.
@@ -55,5 +55,5 @@ pub struct Put {
 pub struct RowPut {
     pub end: usize,
     pub at: usize,
-    pub value: usize,
+    pub value: Option<u32>,
 }
