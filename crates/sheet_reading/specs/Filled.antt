@@ -1,26 +1,27 @@
 -- What the reading calls give, question by question, and the rows that fill the lent buffers. Assumes nothing.
 use Rattle.std.proofs.Math.Path.{◌≡◌, refl, ap, ap₂, sym}
-use Rattle.std.proofs.Common.{◌∙◌, le-leb}
-use Rattle.std.specs.Option.{ok_or, is_some}
+use Rattle.std.proofs.Common.{◌∙◌, le-leb, inl, inr}
+use Rattle.std.specs.Option.{is_some}
 use Rattle.lists.specs.Merge.{every_append}
 use Rattle.protocol.specs.declared.refusal.Refusal.{Refusal}
-use Rattle.std.specs.Prelude.{Option, Some, None, IsSome, Ok, Err, Bool, true, false, ◌&&◌, List, [], ◌∷◌, ◌++◌, ℕ, ◌+◌, ◌*◌, ◌≤◌, ◌<◌, length}
+use Rattle.std.specs.Prelude.{◌⊎◌, Some, None, IsSome, Ok, Err, Bool, true, false, ◌&&◌, List, [], ◌∷◌, ◌++◌, ℕ, ◌+◌, ◌*◌, ◌≤◌, ◌<◌, length}
 use native.Mathlib.Omega.{arith}
 use Rattle.std.proofs.lemmas.Bool.{lt-leb}
-use Rattle.std.proofs.Common.{nat_le}
+use Rattle.std.proofs.Common.{nat_le, nat_lt, leb→le}
+use borrow.Author.Tests.{ltb-true, ltb-false}
 use Rattle.std.proofs.Math.ListN.{length-append}
 use Rattle.std.proofs.Math.Nat.{mul-le-mul_left}
-use Rattle.lists.specs.Basics.{require, every}
+use Rattle.lists.specs.Basics.{when◌then◌else◌, require, every}
 use Rattle.lists.specs.Choice.{on_yes, on_no}
-use Rattle.lists.specs.Tests.{and_false}
+use Rattle.lists.specs.Tests.{and_false, true_T}
 use Rattle.lists.specs.Splice.{splice}
 use Rattle.protocol.specs.declared.refusal.Refusal.TheVariants.{NoSheet, IdentifierTooLarge, RoomShort}
-use Rattle.sheet_reading.specs.declared.Sheet.{Sheet}
+use Rattle.sheets.specs.declared.Counts.{Counts}
 use Rattle.sheet_reading.specs.declared.Row.{Row}
 use Rattle.sheet_reading.specs.declared.RowPut.{RowPut}
 use Rattle.sheets.specs.declared.Place.TheVariants.{Start}
 use Rattle.sheets.specs.Reader.{Said, nothing, lists, fresh, reading, ending, ended_as}
-use Rattle.sheets.specs.Calls.{done, laid, is_word, SheetRead, unread, read_into}
+use Rattle.sheets.specs.Calls.{Outcome, done, laid, is_word, SheetRead, unread, read_into}
 use Rattle.sheets.specs.Words.{every_one}
 use Rattle.sheets.specs.Bytes.{and_first, and_second}
 use Rattle.sheets.specs.Laying.{laid_none, laid_more}
@@ -30,13 +31,13 @@ use Rattle.sheet_reading.specs.Onward.{onward, onward_end, Grown, onward_grown}
 use Rattle.sheet_reading.specs.Judged.{word_some, word_is, RowIs}
 use Rattle.sheet_reading.specs.Put.{Readable, RowPutIs}
 
-abbrev sheet : ℕ → ℕ → Bool → Sheet
-sheet r b f = record { rows = r; bytes = b; fits = f }
-
--- What a text is, before the outputs are looked at.
-unfoldable pub judged : Said → Option Sheet
-judged nothing = None
-judged (lists n i) = Some (record { rows = length i; bytes = length n; fits = every is_word i })
+-- What is told of a text where there is room for so many rows and bytes: what it takes, or why it is refused.
+unfoldable pub judged : Counts → Said → Outcome
+judged room nothing = Err NoSheet
+judged room (lists n i) =
+    require (every is_word i) (Err IdentifierTooLarge)
+    (require (nat_le (length i) room.rows && nat_le (length n) room.bytes) (Err RoomShort)
+    (done (length i) (length n)))
 
 -- Judging: the rows up to i are counted.
 pub record Counted (t : List ℕ) (i rows bytes : ℕ) (fits : Bool) : Type 0 where
@@ -81,40 +82,38 @@ module _ (t : List ℕ) (i rows bytes : ℕ) (fits : Bool) (c : Counted t i rows
         below = (omega arith, omega arith);
       }
 
-  pub counted_wrong : RowIs t i None → None ≡ judged (reading t)
-  unfolding RowIs judged
-  counted_wrong r = sym (ap judged (c.says ∙ r c.names c.numbers c.value))
+  module _ (room : Counts) where
+    pub counted_wrong : RowIs t i None → Err NoSheet ≡ judged room (reading t)
+    unfolding RowIs judged
+    counted_wrong r = sym (ap (judged room) (c.says ∙ r c.names c.numbers c.value))
 
-  pub counted_all_lem : length t ≤ i → Some (record { rows = rows; bytes = bytes; fits = fits }) ≡ judged (reading t)
-  unfolding judged ended_as ending
-  counted_all_lem h =
-      ap (λ z. Some (sheet rows bytes z)) c.fitting ∙ ap₂ (λ p q. Some (sheet p q (every is_word c.numbers))) c.counts c.sizes
-      ∙ sym (ap judged (c.says ∙ onward_end t Start c.names c.numbers c.value i h))
+    module _ (h : length t ≤ i) where
+      all_said : reading t ≡ lists c.names c.numbers
+      unfolding ended_as ending
+      all_said = c.says ∙ onward_end t Start c.names c.numbers c.value i h
 
--- A sheet that was judged.
-pub record Accepted (s : Said) (x : Sheet) : Type 0 where
-  pub n : List ℕ
-  pub i : List ℕ
-  pub is : s ≡ lists n i
-  pub fit : x.fits ≡ every is_word i
-  pub rows : x.rows ≡ length i
-  pub bytes : x.bytes ≡ length n
+      pub counted_large : fits ≡ false → Err IdentifierTooLarge ≡ judged room (reading t)
+      unfolding judged
+      counted_large q = sym (ap (judged room) all_said ∙ on_no (every is_word c.numbers) _ _ (sym c.fitting ∙ q))
 
-pub accepted : (x : Sheet) (s : Said) → Some x ≡ judged s → Accepted s x
-unfolding judged
-accepted x nothing e = absurd (let q : ◌≡◌ {A = ℕ} 0 1 = cc in omega arith)
-accepted x (lists n i) e =
-    let o : x ≡ sheet (length i) (length n) (every is_word i) = cc in
-    record { n = n; i = i; is = refl; fit = ap (λ z. z.fits) o; rows = ap (λ z. z.rows) o; bytes = ap (λ z. z.bytes) o }
+      module _ (q : fits ≡ true) where
+        asked : (r : Outcome) → require (nat_le (length c.numbers) room.rows && nat_le (length c.names) room.bytes) (Err RoomShort) (done (length c.numbers) (length c.names)) ≡ r → r ≡ judged room (reading t)
+        unfolding judged
+        asked r e = sym (ap (judged room) all_said ∙ on_yes (every is_word c.numbers) _ _ (sym c.fitting ∙ q) ∙ e)
 
--- a sheet, or the refusal for none
-pub sheet_some : (o : Option Sheet) (k : Refusal) (x : Sheet) → Ok x ≡ ok_or o k → Some x ≡ o
-sheet_some None k x e = cc
-sheet_some (Some y) k x e = let q : x ≡ y = cc in ap (λ z. Some z) q
+        pub counted_short : (room.rows < rows) ⊎ (room.bytes < bytes) → Err RoomShort ≡ judged room (reading t)
+        counted_short k = asked _ (on_no _ _ _ (go k))
+          where
+            go : (room.rows < rows) ⊎ (room.bytes < bytes) → (nat_le (length c.numbers) room.rows && nat_le (length c.names) room.bytes) ≡ false
+            go (inl x) = let y = c.counts in rw (lt-leb (length c.numbers) room.rows (omega arith))
+            go (inr x) = let y = c.sizes in rw (lt-leb (length c.names) room.bytes (omega arith)) (and_false (nat_le (length c.numbers) room.rows))
 
-pub sheet_none : (o : Option Sheet) (k e : Refusal) → Err e ≡ ok_or o k → None ≡ o
-sheet_none None k x e = refl
-sheet_none (Some y) k x e = cc
+        pub counted_all_lem : rows ≤ room.rows → bytes ≤ room.bytes → Ok (record { rows = rows; bytes = bytes }) ≡ judged room (reading t)
+        counted_all_lem x y =
+            let u = c.counts in
+            let v = c.sizes in
+            ap₂ (λ p q. done p q) c.counts c.sizes
+            ∙ asked _ (on_yes _ _ _ (rw (le-leb (length c.numbers) room.rows (omega arith), le-leb (length c.names) room.bytes (omega arith))))
 
 -- The sheet's identifiers are words, and its lists fit into buffers of these lengths.
 pub record Roomy (s : Said) (form : List ℕ → List ℕ) (k l : ℕ) : Type 0 where
@@ -125,62 +124,92 @@ pub record Roomy (s : Said) (form : List ℕ → List ℕ) (k l : ℕ) : Type 0 
   pub ids_fit : length (form i) ≤ k
   pub names_fit : length n ≤ l
 
-module _ (form : List ℕ → List ℕ) where
-  pub read_none : (ids names : List ℕ) (s : Said) → None ≡ judged s → read_into form ids names s ≡ unread ids names NoSheet
+-- A text whose identifiers are words and fit their places, as the names do, and what it takes.
+record Accepted (form : List ℕ → List ℕ) (ids names : List ℕ) (s : Said) (x : Counts) : Type 0 where
+  n : List ℕ
+  i : List ℕ
+  is : s ≡ lists n i
+  words : every is_word i ≡ true
+  fits : (nat_le (length (form i)) (length ids) && nat_le (length n) (length names)) ≡ true
+  takes : done (length i) (length n) ≡ Ok x
+
+-- What was asked of the room that there is for identifiers was asked of their places.
+module _ (form : List ℕ → List ℕ) (each : ℕ) (laws : Forms form each) (ids names : List ℕ) (room : Counts) (has : each * room.rows ≤ length ids)
+    (most : length ids < each * (room.rows + 1)) (all : room.bytes ≡ length names) where
+  same_room : (i : List ℕ) → nat_le (length (form i)) (length ids) ≡ nat_le (length i) room.rows
+  same_room i = go (nat_lt room.rows (length i)) refl
+    where
+      go : (b : Bool) → nat_lt room.rows (length i) ≡ b → nat_le (length (form i)) (length ids) ≡ nat_le (length i) room.rows
+      go true e =
+          let h = ltb-true _ _ e in
+          let m : each * (room.rows + 1) ≤ each * length i = mul-le-mul_left each (omega arith) in
+          let z = laws.size i in
+          lt-leb (length (form i)) (length ids) (omega arith) ∙ sym (lt-leb (length i) room.rows h)
+      go false e =
+          let h = ltb-false _ _ e in
+          let m : each * length i ≤ each * room.rows = mul-le-mul_left each h in
+          let z = laws.size i in
+          le-leb (length (form i)) (length ids) (omega arith) ∙ sym (le-leb (length i) room.rows h)
+
+  same : (n i : List ℕ) → (nat_le (length (form i)) (length ids) && nat_le (length n) (length names)) ≡ (nat_le (length i) room.rows && nat_le (length n) room.bytes)
+  same n i = ap₂ (λ x y. x && nat_le (length n) y) (same_room i) (sym all)
+
+  -- what a call leaves that gives this outcome and has written nothing
+  abbrev as_it_was : Outcome → SheetRead
+  as_it_was o = record { outcome = o; identifiers = ids; names = names }
+
+  refused : (p q : Bool) (k : Refusal) (x : Counts) (r : SheetRead) → require p (Err IdentifierTooLarge) (require q (Err RoomShort) (Ok x)) ≡ Err k
+      → require p (unread ids names IdentifierTooLarge) (require q (unread ids names RoomShort) r) ≡ unread ids names k
+  unfolding require when◌then◌else◌
+  refused false q k x r e = ap as_it_was e
+  refused true false k x r e = ap as_it_was e
+  refused true true k x r e = absurd (let z : ◌≡◌ {A = ℕ} 0 1 = cc in omega arith)
+
+  pub read_refused : (s : Said) (k : Refusal) → judged room s ≡ Err k → read_into form ids names s ≡ unread ids names k
   unfolding judged read_into
-  read_none ids names nothing e = refl
-  read_none ids names (lists n i) e = absurd (let q : ◌≡◌ {A = ℕ} 0 1 = cc in omega arith)
+  read_refused nothing k e = ap as_it_was e
+  read_refused (lists n i) k e =
+      ap (λ z. require (every is_word i) (unread ids names IdentifierTooLarge) (require z (unread ids names RoomShort) (record { outcome = done (length i) (length n); identifiers = laid ids (form i); names = laid names n }))) (same n i)
+      ∙ refused (every is_word i) (nat_le (length i) room.rows && nat_le (length n) room.bytes) k _ _ e
 
-  module _ (ids names : List ℕ) (x : Sheet) (s : Said) (e : Some x ≡ judged s) where
-    abbrev pub a : Accepted s x
-    a = accepted x s e
+  abbrev gives : Counts → Outcome
+  gives c = Ok c
 
-    pub too_large : x.fits ≡ false → read_into form ids names s ≡ unread ids names IdentifierTooLarge
+  granted : (p q : Bool) (c x : Counts) → require p (Err IdentifierTooLarge) (require q (Err RoomShort) (Ok c)) ≡ Ok x → (p ≡ true) × (q ≡ true) × (gives c ≡ Ok x)
+  unfolding require when◌then◌else◌
+  granted false q c x e = absurd (let z : ◌≡◌ {A = ℕ} 0 1 = cc in omega arith)
+  granted true false c x e = absurd (let z : ◌≡◌ {A = ℕ} 0 1 = cc in omega arith)
+  granted true true c x e = (refl, refl, e)
+
+  -- a sheet that was judged, and what it takes
+  accepted : (s : Said) (x : Counts) → judged room s ≡ Ok x → Accepted form ids names s x
+  unfolding judged
+  accepted nothing x e = absurd (let z : ◌≡◌ {A = ℕ} 0 1 = cc in omega arith)
+  accepted (lists n i) x e =
+      let g = granted (every is_word i) (nat_le (length i) room.rows && nat_le (length n) room.bytes) _ x e in
+      record { n = n; i = i; is = refl; words = g.0; fits = same n i ∙ g.1; takes = g.2 }
+
+  module _ (s : Said) (x : Counts) (e : judged room s ≡ Ok x) where
+    abbrev a : Accepted form ids names s x
+    a = accepted s x e
+
+    pub roomy : Roomy s form (length ids) (length names)
+    roomy = record {
+      n = a.n;
+      i = a.i;
+      is = a.is;
+      words = a.words;
+      ids_fit = leb→le _ _ (true_T _ (and_first (nat_le (length (form a.i)) (length ids)) (nat_le (length a.n) (length names)) a.fits));
+      names_fit = leb→le _ _ (true_T _ (and_second (nat_le (length (form a.i)) (length ids)) (nat_le (length a.n) (length names)) a.fits));
+    }
+
+    pub all_read : (u w : List ℕ) → ((n c : List ℕ) → s ≡ lists n c → (u ≡ laid ids (form c)) × (w ≡ laid names n)) → read_into form ids names s ≡ record { outcome = Ok x; identifiers = u; names = w }
     unfolding read_into
-    too_large q = ap (read_into form ids names) a.is ∙ on_no (every is_word a.i) _ _ (sym a.fit ∙ q)
-
-    module _ (all : x.fits ≡ true) where
-      fits : every is_word a.i ≡ true
-      fits = sym a.fit ∙ all
-
-      rest_of : (k : SheetRead) → require (nat_le (length (form a.i)) (length ids) && nat_le (length a.n) (length names)) (unread ids names RoomShort)
-          (record { outcome = done (length a.i) (length a.n); identifiers = laid ids (form a.i); names = laid names a.n }) ≡ k → read_into form ids names s ≡ k
-      unfolding read_into
-      rest_of k e = ap (read_into form ids names) a.is ∙ on_yes (every is_word a.i) _ _ fits ∙ e
-
-      -- is an output too short? asked of the identifiers that have room
-      pub ids_short : (each room : ℕ) → Forms form each → length ids < each * (room + 1) → room < x.rows → read_into form ids names s ≡ unread ids names RoomShort
-      ids_short each room laws most h =
-          let y = a.rows in
-          let z = laws.size a.i in
-          let m : each * (room + 1) ≤ each * length a.i = mul-le-mul_left each (omega arith) in
-          rest_of _ (on_no _ _ _ (rw (lt-leb (length (form a.i)) (length ids) (omega arith))))
-
-      pub names_short : length names < x.bytes → read_into form ids names s ≡ unread ids names RoomShort
-      names_short h =
-          let y = a.bytes in
-          rest_of _ (on_no _ _ _ (rw (lt-leb (length a.n) (length names) (omega arith)) (and_false (nat_le (length (form a.i)) (length ids)))))
-
-      module _ (each room : ℕ) (laws : Forms form each) (has : each * room ≤ length ids) (enough : x.rows ≤ room) (k : x.bytes ≤ length names) where
-        h : length (form a.i) ≤ length ids
-        h =
-            let y = a.rows in
-            let z = laws.size a.i in
-            let m : each * length a.i ≤ each * room = mul-le-mul_left each (omega arith) in
-            omega arith
-
-        pub roomy : Roomy s form (length ids) (length names)
-        roomy = let y = a.bytes in record { n = a.n; i = a.i; is = a.is; words = fits; ids_fit = h; names_fit = omega arith }
-
-        pub all_read : (u w : List ℕ) → ((n c : List ℕ) → s ≡ lists n c → (u ≡ laid ids (form c)) × (w ≡ laid names n)) → read_into form ids names s ≡ record { outcome = done x.rows x.bytes; identifiers = u; names = w }
-        all_read u w f =
-            let z = a.rows in
-            let y = a.bytes in
-            let g = f a.n a.i a.is in
-            rest_of _ (
-            on_yes _ _ _ (rw (le-leb (length (form a.i)) (length ids) h, le-leb (length a.n) (length names) (omega arith)))
-            ∙ ap₂ (λ p q. record { outcome = done p q; identifiers = laid ids (form a.i); names = laid names a.n }) (sym z) (sym y)
-            ∙ ap₂ (λ p q. record { outcome = done x.rows x.bytes; identifiers = p; names = q }) (sym g.0) (sym g.1))
+    all_read u w f =
+        let g = f a.n a.i a.is in
+        ap (read_into form ids names) a.is ∙ on_yes (every is_word a.i) _ _ a.words ∙ on_yes _ _ _ a.fits
+        ∙ ap (λ z. record { outcome = z; identifiers = laid ids (form a.i); names = laid names a.n }) a.takes
+        ∙ ap₂ (λ p q. record { outcome = Ok x; identifiers = p; names = q }) (sym g.0) (sym g.1)
 
 -- All that a sheet says is in the buffers.
 abbrev pub AllFilled : (List ℕ → List ℕ) → List ℕ → List ℕ → List ℕ → List ℕ → List ℕ → Type 0

@@ -35,14 +35,6 @@ pub struct Row {
     pub value: Option<u32>,
 }
 
-// A sheet of so many rows and bytes of names, whose identifiers all fit a word or not.
-#[derive(Clone, Copy)]
-pub struct Sheet {
-    pub rows: usize,
-    pub bytes: usize,
-    pub fits: bool,
-}
-
 // A name written: where the number behind it begins, and the place behind the name in the names.
 #[derive(Clone, Copy)]
 pub struct Put {
