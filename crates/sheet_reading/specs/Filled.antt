@@ -18,7 +18,6 @@ use Rattle.lists.specs.Splice.{splice}
 use Rattle.protocol.specs.declared.refusal.Refusal.TheVariants.{NoSheet, IdentifierTooLarge, RoomShort}
 use Rattle.sheets.specs.declared.Counts.{Counts}
 use Rattle.sheet_reading.specs.declared.Row.{Row}
-use Rattle.sheet_reading.specs.declared.RowPut.{RowPut}
 use Rattle.sheets.specs.declared.Place.TheVariants.{Start}
 use Rattle.sheets.specs.Reader.{Said, nothing, lists, fresh, reading, ending, ended_as}
 use Rattle.sheets.specs.Calls.{Outcome, done, laid, is_word, SheetRead, unread, read_into}
@@ -29,7 +28,7 @@ use Rattle.sheets.proofs.Sound.{same_lists}
 use Rattle.sheet_reading.specs.Carried.{Forms}
 use Rattle.sheet_reading.specs.Onward.{onward, onward_end, Grown, onward_grown}
 use Rattle.sheet_reading.specs.Judged.{word_some, word_is, RowIs}
-use Rattle.sheet_reading.specs.Put.{Readable, RowPutIs}
+use Rattle.sheet_reading.specs.Put.{Readable, RowPut}
 
 -- What is told of a text where there is room for so many rows and bytes: what it takes, or why it is refused.
 unfoldable pub judged : Counts → Said → Outcome
@@ -255,7 +254,7 @@ module _ (form : List ℕ → List ℕ) (each : ℕ) (laws : Forms form each) (t
       fits = room.names_fit;
     }
 
-    module _ (names' : List ℕ) (p : RowPut) (r : RowPutIs t i names at names' p) where
+    module _ (names' : List ℕ) (p : Row) (r : RowPut t i names at names' p) where
       abbrev numbers' : List ℕ
       numbers' = f.numbers ++ (r.number ∷ [])
 
@@ -279,6 +278,16 @@ module _ (form : List ℕ → List ℕ) (each : ℕ) (laws : Forms form each) (t
           let g = sym (every_append is_word numbers' row_grown.more_numbers) ∙ sym (ap (every is_word) row_grown.numbers) ∙ room.words in
           and_second (every is_word f.numbers) (is_word r.number) (sym (every_one is_word f.numbers r.number) ∙ and_first (every is_word numbers') (every is_word row_grown.more_numbers) g)
 
+      pub names_room : at + p.bytes ≤ length names₀
+      names_room =
+          let g = ap length row_grown.names ∙ length-append (f.said ++ (r.name ++ (0 ∷ []))) row_grown.more_names in
+          let l = length-append f.said (r.name ++ (0 ∷ [])) in
+          let o = length_one r.name 0 in
+          let b = r.size in
+          let h = f.here in
+          let k = room.names_fit in
+          omega arith
+
       pub value_there : IsSome p.value
       value_there = ap (λ z. is_some z) r.kept ∙ word_some r.number ∙ number_word
 
@@ -294,10 +303,10 @@ module _ (form : List ℕ → List ℕ) (each : ℕ) (laws : Forms form each) (t
       value_is v e = word_is r.number v (sym r.kept ∙ e)
 
       -- the number is written behind those before
-      pub filled_row : (v : ℕ) → p.value ≡ Some v → (ids' : List ℕ) → ids' ≡ splice ids (each * row) (form (v ∷ [])) → Filled form t ids₀ names₀ ids' names' (row + 1) p.at p.end
+      pub filled_row : (v : ℕ) → p.value ≡ Some v → (ids' : List ℕ) → ids' ≡ splice ids (each * row) (form (v ∷ [])) → Filled form t ids₀ names₀ ids' names' (row + 1) (at + p.bytes) p.end
       filled_row v q ids' e =
           let here : each * row ≡ length (form f.numbers) = ap (λ x. each * x) f.count ∙ sym (laws.size f.numbers) in
-          let b = r.behind in
+          let b = r.size in
           let h = f.here in
           let l = length-append f.said (r.name ++ (0 ∷ [])) in
           let o = length_one r.name 0 in

@@ -23,7 +23,7 @@ fn fill<T: Identifier>(text: &[u8], identifiers: &mut [T], names: &mut [u8])
         let r = copy_row(text, i, names, at);
         T::put(identifiers, row, r.value.unwrap());
         row += 1;
-        at = r.at;
+        at += r.bytes;
         i = r.end;
     }
 }

@@ -13,7 +13,7 @@ mod runs;
 
 pub use filling::{read_sheet, read_sheet_bytes};
 
-// A name with its comma: where the number behind it begins, and how many bytes it takes in the names, its zero byte included.
+// A name with its comma, judged or copied: where the number behind it begins, and how many bytes it takes in the names, its zero byte included.
 #[derive(Clone, Copy)]
 pub struct Name {
     pub end: usize,
@@ -32,20 +32,5 @@ pub struct Run {
 pub struct Row {
     pub end: usize,
     pub bytes: usize,
-    pub value: Option<u32>,
-}
-
-// A name written: where the number behind it begins, and the place behind the name in the names.
-#[derive(Clone, Copy)]
-pub struct Put {
-    pub end: usize,
-    pub at: usize,
-}
-
-// A row written, up to its number: where the next row begins, the place behind its name, and the number.
-#[derive(Clone, Copy)]
-pub struct RowPut {
-    pub end: usize,
-    pub at: usize,
     pub value: Option<u32>,
 }

@@ -6,7 +6,7 @@ use native.Mathlib.Omega.{arith}
 use lib.ListN.{length}
 use Rattle.sheets.specs.Laying.{length_splice}
 use Rattle.sheet_reading.specs.Carried.{form_room}
-use Rattle.sheet_reading.specs.Filled.{filled_none, row_room, value_there, filled_row, filled_all}
+use Rattle.sheet_reading.specs.Filled.{filled_none, row_room, names_room, value_there, filled_row, filled_all}
 use Rattle.sheet_reading.proofs.filling.fill.Goals as goal
 
 pub loop-i-init : goal.loop-i-init
@@ -18,6 +18,14 @@ unwrap-requires g c =
     let a = c.args in
     let l = c.loop-i in
     value_there d.form d.each d.laws a.text.now (d.held a.identifiers.now) a.names.now c.requires (d.held l.identifiers) l.names l.row l.at l.i l.invariant.0 _ c.copy_row-r.result c.copy_row-r.ensures
+
+pub overflow_add-at : goal.overflow_add-at
+overflow_add-at g c =
+    let d = g.T.Identifier in
+    let a = c.args in
+    let l = c.loop-i in
+    let r = names_room d.form d.each d.laws a.text.now (d.held a.identifiers.now) a.names.now c.requires (d.held l.identifiers) l.names l.row l.at l.i l.invariant.0 _ c.copy_row-r.result c.copy_row-r.ensures in
+    omega arith
 
 pub put-requires : goal.put-requires
 put-requires g c =
