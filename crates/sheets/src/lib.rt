@@ -70,7 +70,8 @@ pub fn is_digit(b: u8) -> bool
     b.is_ascii_digit()
 }
 
-// The value of a digit; of a byte below all digits, which is never read as one, 0.
+// The value of a digit; of a byte below all digits, which is never read as one, 0. A function, since it states a rule of the reader (`valued` in
+// specs/Reader.antt) and is plainer than the library's way, over a char to an Option.
 pub fn digit_value(b: u8) -> usize
     ensures { (result ≡ b - 48) × (result < 256) }
 {
