@@ -1,5 +1,5 @@
 -- What the functions that judge a sheet find at a place of the text, and why: a name, a number, the end of a row, a row. Assumes nothing.
-use Rattle.std.specs.Prelude.{◌≡◌, ◌≢◌, Option, Some, None, Bool, ℕ, ◌+◌, ◌-◌, ◌≤◌, ◌<◌, min, get_or}
+use Rattle.std.specs.Prelude.{◌≡◌, ◌≢◌, Option, Some, None, Result, Ok, Err, Bool, ℕ, ◌+◌, ◌-◌, ◌≤◌, ◌<◌, get_or}
 use Rattle.std.proofs.Math.Path.{refl, ap, sym}
 use Rattle.std.proofs.Common.{◌∙◌, subst, length-append}
 use Rattle.std.proofs.Math.Bool.{true, false}
@@ -8,7 +8,10 @@ use native.Mathlib.Omega.{arith}
 use borrow.Author.Tests.{ltb-true, ltb-false, eqb-true, eqb-false}
 use Rattle.std.proofs.Common.{nat_lt, nat_eq}
 use Rattle.std.proofs.Math.ListN.{length}
-use Rattle.lists.specs.Basics.{every}
+use Rattle.std.specs.Option.{is_some}
+use Rattle.std.specs.Result.{OkIff, result_ok}
+use Rattle.std.proofs.lemmas.Bool.{le-leb, lt-leb}
+use Rattle.lists.specs.Basics.{when◌then◌else◌, every}
 use Rattle.lists.specs.Merge.{every_append}
 use Rattle.sheet_reading.specs.declared.Name.{Name}
 use Rattle.sheet_reading.specs.declared.Row.{Row}
@@ -17,14 +20,45 @@ use Rattle.sheets.specs.Grammar.{quote, comma, cr, lf, is_digit, worth}
 use Rattle.sheet_reading.specs.Kinds.{plain_byte, quoted_byte}
 use Rattle.sheets.specs.declared.Place.{Place}
 use Rattle.sheets.specs.declared.Place.TheVariants.{Start, Plain, Opened, Quoted, Closed, Number, Digits, NumberOpened, NumberQuoted, NumberClosed, Return}
+use Rattle.sheets.specs.Calls.{is_word}
 use Rattle.sheets.specs.Reader.{nothing, ending, ended_as}
 use Rattle.sheet_reading.specs.Runs.{between, RunTo, length_between, between_none, between_both, run_first, worth_append, worth_ten}
 use Rattle.sheet_reading.specs.Nexts
 use Rattle.sheet_reading.specs.Onward.{onward, onward_end, onward_wrong, onward_opened, onward_closed, onward_quoted, onward_number, onward_number_opened, onward_number_closed, onward_return, onward_start, onward_as, plain_over, quoted_over, digits_on, number_quoted_on}
 
--- Numbers are followed up to 2^32.
-abbrev pub capped : ℕ → ℕ
-capped v = min v 4294967296
+-- The identifier that a number is: none where it is too large.
+unfoldable pub word_of : ℕ → Option ℕ
+word_of v = when is_word v then Some v else None
+
+pub word_small : (v : ℕ) → v ≤ 4294967295 → word_of v ≡ Some v
+unfolding word_of is_word when◌then◌else◌
+word_small v h = rw (le-leb v 4294967295 h)
+
+pub word_large : (v : ℕ) → 4294967295 < v → word_of v ≡ None
+unfolding word_of is_word when◌then◌else◌
+word_large v h = rw (lt-leb v 4294967295 h)
+
+-- there is one exactly if the number is a word, and then it is the number
+pub word_some : (v : ℕ) → is_some (word_of v) ≡ is_word v
+unfolding word_of when◌then◌else◌
+word_some v = go (is_word v)
+  where
+    go : (b : Bool) → is_some (when b then Some v else None) ≡ b
+    go true = refl
+    go false = refl
+
+pub word_is : (v w : ℕ) → word_of v ≡ Some w → w ≡ v
+unfolding word_of when◌then◌else◌
+word_is v w e = go (is_word v) e
+  where
+    go : (b : Bool) → (when b then Some v else None) ≡ Some w → w ≡ v
+    go true q = cc
+    go false q = absurd (let z : ◌≡◌ {A = ℕ} 0 1 = cc in omega arith)
+
+-- what `u32::try_from` makes of a number
+pub word_tried : {E : Type 0} (v : ℕ) (r : Result ℕ E) → OkIff r (v < 4294967296) v → result_ok r ≡ word_of v
+word_tried v (Ok w) e = ap (λ z. Some z) e.1 ∙ sym (word_small v (let h = e.0 in omega arith))
+word_tried v (Err k) e = sym (word_large v (omega (arith, e)))
 
 -- From this place of the text on, a reader in this state says nothing: no sheet goes on so.
 abbrev pub Silent : List ℕ → Place → ℕ → Type 0
@@ -43,9 +77,9 @@ NameIs t p i None = Silent t p i
 NameIs t p i (Some x) = NameSaid t p i x.end x.bytes
 
 -- A number: the reader behind it stands as behind a quoted one.
-pub record NumberSaid (t : List ℕ) (p : Place) (i end value : ℕ) : Type 0 where
+pub record NumberSaid (t : List ℕ) (p : Place) (i end : ℕ) (value : Option ℕ) : Type 0 where
   pub number : ℕ
-  pub kept : value ≡ capped number
+  pub kept : value ≡ word_of number
   pub ahead : i < end
   pub within : end ≤ length t
   pub leads : (n c : List ℕ) → onward t p n c 0 i ≡ onward t NumberClosed n c number end
@@ -65,11 +99,11 @@ EndIs t i None = Silent t NumberClosed i
 EndIs t i (Some end) = EndSaid t i end
 
 -- A row.
-pub record RowSaid (t : List ℕ) (i end bytes value : ℕ) : Type 0 where
+pub record RowSaid (t : List ℕ) (i end bytes : ℕ) (value : Option ℕ) : Type 0 where
   pub name : List ℕ
   pub number : ℕ
   pub size : bytes ≡ length name + 1
-  pub kept : value ≡ capped number
+  pub kept : value ≡ word_of number
   pub ahead : i + bytes < end
   pub within : end ≤ length t
   pub leads : (n c : List ℕ) (v : ℕ) → onward t Start n c v i ≡ onward t Start (n ++ (name ++ (0 ∷ []))) (c ++ (number ∷ [])) number end
@@ -79,19 +113,19 @@ RowIs t i None = Silent t Start i
 RowIs t i (Some x) = RowSaid t i x.end x.bytes x.value
 
 -- Digits.
-pub record DigitsSaid (t : List ℕ) (i end value : ℕ) : Type 0 where
+pub record DigitsSaid (t : List ℕ) (i end : ℕ) (value : Option ℕ) : Type 0 where
   pub digits : RunTo is_digit t i end
-  pub made : value ≡ capped (worth 0 (between i end t))
+  pub made : value ≡ word_of (worth 0 (between i end t))
 
 abbrev pub RunIs : List ℕ → ℕ → Run → Type 0
 RunIs t i r = DigitsSaid t i r.end r.value
 
 module _ (t : List ℕ) where
-  -- a number that is followed to its end, and one that has become too large
-  pub digits_small : (i e v : ℕ) → RunTo is_digit t i e → v ≡ worth 0 (between i e t) → v ≤ 4294967295 → DigitsSaid t i e v
-  digits_small i e v r w h = record { digits = r; made = omega arith }
+  -- a number that is followed to its end, and one that has become large
+  pub digits_small : (i e v : ℕ) (w : Option ℕ) → RunTo is_digit t i e → v ≡ worth 0 (between i e t) → w ≡ word_of v → DigitsSaid t i e w
+  digits_small i e v w r q z = record { digits = r; made = z ∙ ap word_of q }
 
-  pub digits_large : (i j e v w : ℕ) → i ≤ j → every is_digit (between i j t) ≡ true → v ≡ worth 0 (between i j t) → RunTo is_digit t j e → w ≡ capped (worth v (between j e t)) → DigitsSaid t i e w
+  pub digits_large : (i j e v : ℕ) (w : Option ℕ) → i ≤ j → every is_digit (between i j t) ≡ true → v ≡ worth 0 (between i j t) → RunTo is_digit t j e → w ≡ word_of (worth v (between j e t)) → DigitsSaid t i e w
   digits_large i j e v w h p q r z =
       let f = r.from in
       let b : between i e t ≡ between i j t ++ between j e t = between_both i j e t h r.from in
@@ -102,20 +136,20 @@ module _ (t : List ℕ) where
           passed = ap (every is_digit) b ∙ every_append is_digit (between i j t) (between j e t) ∙ rw (p, r.passed);
           stopped = r.stopped;
         };
-        made = z ∙ ap (λ x. capped (worth x (between j e t))) q ∙ ap capped (sym (ap (worth 0) b ∙ worth_append (between i j t) (between j e t) 0));
+        made = z ∙ ap (λ x. word_of (worth x (between j e t))) q ∙ ap word_of (sym (ap (worth 0) b ∙ worth_append (between i j t) (between j e t) 0));
       }
 
   -- of ten figures or more: any figure behind them makes it too large
-  pub large_more : (j e v : ℕ) → RunTo is_digit t j e → 999999999 < v → e ≢ j → 4294967296 ≡ capped (worth v (between j e t))
+  pub large_more : (j e v : ℕ) → RunTo is_digit t j e → 999999999 < v → e ≢ j → None ≡ word_of (worth v (between j e t))
   large_more j e v r h k =
       let f = r.from in
       let l = length_between j e t r.from r.within in
       let g = worth_ten (between j e t) v (omega arith) in
-      omega arith
+      sym (word_large (worth v (between j e t)) (omega arith))
 
-  pub large_none : (j e v : ℕ) → e ≡ j → capped v ≡ capped (worth v (between j e t))
+  pub large_none : (j e v : ℕ) → e ≡ j → word_of v ≡ word_of (worth v (between j e t))
   unfolding worth
-  large_none j e v q = let z : between j e t ≡ [] = ap (λ x. between j x t) q ∙ between_none j t in sym (ap (λ l. capped (worth v l)) z)
+  large_none j e v q = let z : between j e t ≡ [] = ap (λ x. between j x t) q ∙ between_none j t in sym (ap (λ l. word_of (worth v l)) z)
 
   -- an unquoted name
   module _ (i e : ℕ) (h : i < length t) (k : get_or t i 0 ≡ quote → ⊥) (r : RunTo plain_byte t i e) where
@@ -239,7 +273,7 @@ module _ (t : List ℕ) where
     }
 
   -- a number that is not quoted
-  module _ (i e v : ℕ) (r : DigitsSaid t i e v) where
+  module _ (i e : ℕ) (v : Option ℕ) (r : DigitsSaid t i e v) where
     abbrev digits : RunTo is_digit t i e
     digits = r.digits
 

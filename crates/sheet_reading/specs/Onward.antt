@@ -158,40 +158,53 @@ module _ (t : List ℕ) where
     number_quoted_on e n c v = digits_over is_digit NumberQuoted number_quoted_next refl i j h e n c v
 
 -- What was said is still said at the end: names and identifiers only grow.
-fed_grows : (m : Reader) (b : ℕ) → (length m.names ≤ length (fed m b).names) × (length m.identifiers ≤ length (fed m b).identifiers)
-unfolding fed moved
-fed_grows m b =
-    let x = effect (next m.place b) in
-    (omega (arith, length-append m.names (said x b)), omega (arith, length-append m.identifiers (told x m.value)))
+pub record Grown (n c x y : List ℕ) : Type 0 where
+  pub more_names : List ℕ
+  pub more_numbers : List ℕ
+  pub names : x ≡ n ++ more_names
+  pub numbers : y ≡ c ++ more_numbers
 
-run_grows : (t : List ℕ) (m : Reader) → (length m.names ≤ length (run m t).names) × (length m.identifiers ≤ length (run m t).identifiers)
-unfolding run
-run_grows [] m = (omega arith, omega arith)
+run_grows : (t : List ℕ) (m : Reader) → Grown m.names m.identifiers (run m t).names (run m t).identifiers
+unfolding run fed moved
+run_grows [] m = record { more_names = []; more_numbers = []; names = sym (append-nil m.names); numbers = sym (append-nil m.identifiers) }
 run_grows (b ∷ t) m =
     let r = run_grows t (fed m b) in
-    let s = fed_grows m b in
-    (omega arith, omega arith)
+    let s = said (effect (next m.place b)) b in
+    let k = told (effect (next m.place b)) m.value in
+    record {
+      more_names = s ++ r.more_names;
+      more_numbers = k ++ r.more_numbers;
+      names = r.names ∙ append_assoc m.names s r.more_names;
+      numbers = r.numbers ∙ append_assoc m.identifiers k r.more_numbers;
+    }
 
-as_grows : (e : Ending) (m : Reader) (x y : List ℕ) → ended_as e m ≡ lists x y → (length m.names ≤ length x) × (length m.identifiers ≤ length y)
+as_grows : (e : Ending) (m : Reader) (n c x y : List ℕ) → Grown n c m.names m.identifiers → ended_as e m ≡ lists x y → Grown n c x y
 unfolding ended_as
-as_grows Within m x y q = absurd (let z : ◌≡◌ {A = ℕ} 0 1 = cc in omega arith)
-as_grows BehindRows m x y q =
-    let a : m.names ≡ x = cc in
-    let b : m.identifiers ≡ y = cc in
-    let la = ap length a in
-    let lb = ap length b in
-    (omega arith, omega arith)
-as_grows BehindNumber m x y q =
-    let a : m.names ≡ x = cc in
-    let b : m.identifiers ++ (m.value ∷ []) ≡ y = cc in
-    let la = ap length a in
-    let lb = ap length b in
-    (omega arith, omega (arith, length-append m.identifiers (m.value ∷ [])))
+as_grows Within m n c x y g q = absurd (let z : ◌≡◌ {A = ℕ} 0 1 = cc in omega arith)
+as_grows BehindRows m n c x y g q =
+    let a : x ≡ m.names = cc in
+    let b : y ≡ m.identifiers = cc in
+    record { more_names = g.more_names; more_numbers = g.more_numbers; names = a ∙ g.names; numbers = b ∙ g.numbers }
+as_grows BehindNumber m n c x y g q =
+    let a : x ≡ m.names = cc in
+    let b : y ≡ m.identifiers ++ (m.value ∷ []) = cc in
+    record {
+      more_names = g.more_names;
+      more_numbers = g.more_numbers ++ (m.value ∷ []);
+      names = a ∙ g.names;
+      numbers = b ∙ ap (λ l. l ++ (m.value ∷ [])) g.numbers ∙ append_assoc c g.more_numbers (m.value ∷ []);
+    }
 
-pub onward_grows : (t : List ℕ) (p : Place) (n c : List ℕ) (v i : ℕ) (x y : List ℕ) → onward t p n c v i ≡ lists x y → (length n ≤ length x) × (length c ≤ length y)
-unfolding onward ended
-onward_grows t p n c v i x y e =
-    let m = run (standing p n c v) (drop i t) in
-    let g = run_grows (drop i t) (standing p n c v) in
-    let h = as_grows (ending m.place) m x y e in
-    (omega arith, omega arith)
+module _ (t : List ℕ) (p : Place) (n c : List ℕ) (v i : ℕ) (x y : List ℕ) (e : onward t p n c v i ≡ lists x y) where
+  pub onward_grown : Grown n c x y
+  unfolding onward ended
+  onward_grown =
+      let m = run (standing p n c v) (drop i t) in
+      as_grows (ending m.place) m n c x y (run_grows (drop i t) (standing p n c v)) e
+
+  pub onward_grows : (length n ≤ length x) × (length c ≤ length y)
+  onward_grows =
+      let g = onward_grown in
+      let a = ap length g.names ∙ length-append n g.more_names in
+      let b = ap length g.numbers ∙ length-append c g.more_numbers in
+      (omega arith, omega arith)

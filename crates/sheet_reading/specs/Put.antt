@@ -12,8 +12,8 @@ use Rattle.std.proofs.Common.{drop-drop}
 use borrow.Rule.Slice.PartMut.{put_mid}
 use Rattle.lists.specs.Basics.{when◌then◌else◌, every}
 use Rattle.lists.specs.Splice.{splice}
-use Rattle.sheet_reading.specs.declared.Put.{Put}
-use Rattle.sheet_reading.specs.declared.RowPut.{RowPut}
+use Rattle.sheet_reading.specs.declared.Name.{Name}
+use Rattle.sheet_reading.specs.declared.Row.{Row}
 use Rattle.sheet_reading.specs.declared.Run.{Run}
 use Rattle.sheets.specs.Grammar.{quote, comma}
 use Rattle.sheet_reading.specs.Kinds.{plain_byte, quoted_byte}
@@ -27,7 +27,7 @@ use Rattle.sheet_reading.specs.Runs.{between, between_none, between_more, length
 use Rattle.sheet_reading.specs.Nexts
 use Rattle.sheet_reading.specs.Onward.{onward, onward_end, onward_wrong, onward_closed, onward_letter, onward_quoted, onward_number, onward_as, names_over, plain_stays, quoted_stays, plain_over, quoted_over, onward_grows}
 use Rattle.sheets.specs.Laying.{splice_none, splice_one, splice_twice, length_splice}
-use Rattle.sheet_reading.specs.Judged.{capped, NumberIs, EndIs, opened_name}
+use Rattle.sheet_reading.specs.Judged.{word_of, NumberIs, EndIs, opened_name}
 
 -- A reader at this place of the text that has said names of `at` bytes, and reads on to the end: all names have this room.
 pub record Readable (t : List ℕ) (p : Place) (i at room : ℕ) : Type 0 where
@@ -137,24 +137,36 @@ mid_splice w ys at k q =
     sym (append_assoc (take at w) ys (drop k (drop at w))) ∙ ap (λ z. take at w ++ ys ++ z) (drop-drop k at w ∙ ap (λ x. drop (at + x) w) q)
 
 -- A name written with its zero byte, and what is said from the number on.
-pub record NamePut (t : List ℕ) (p : Place) (i : ℕ) (names₀ : List ℕ) (at : ℕ) (names : List ℕ) (r : Put) : Type 0 where
+pub record NamePut (t : List ℕ) (p : Place) (i : ℕ) (names₀ : List ℕ) (at : ℕ) (names : List ℕ) (r : Name) : Type 0 where
   pub name : List ℕ
   pub ahead : i < r.end
   pub within : r.end ≤ length t
-  pub behind : r.at ≡ at + (length name + 1)
+  pub size : r.bytes ≡ length name + 1
   pub written : names ≡ splice names₀ at (name ++ (0 ∷ []))
   pub leads : (n c : List ℕ) (v : ℕ) → onward t p n c v i ≡ onward t Number (n ++ (name ++ (0 ∷ []))) c 0 r.end
 
 -- A row of which the name is written.
-pub record RowPutIs (t : List ℕ) (i : ℕ) (names₀ : List ℕ) (at : ℕ) (names : List ℕ) (r : RowPut) : Type 0 where
+pub record RowPut (t : List ℕ) (i : ℕ) (names₀ : List ℕ) (at : ℕ) (names : List ℕ) (r : Row) : Type 0 where
   pub name : List ℕ
   pub number : ℕ
   pub ahead : i < r.end
   pub within : r.end ≤ length t
-  pub behind : r.at ≡ at + (length name + 1)
-  pub kept : r.value ≡ capped number
+  pub size : r.bytes ≡ length name + 1
+  pub kept : r.value ≡ word_of number
   pub written : names ≡ splice names₀ at (name ++ (0 ∷ []))
   pub leads : (n c : List ℕ) (v : ℕ) → onward t Start n c v i ≡ onward t Start (n ++ (name ++ (0 ∷ []))) (c ++ (number ∷ [])) number r.end
+
+-- what is written has room
+pub name_room : (t : List ℕ) (p : Place) (i at room : ℕ) → Readable t p i at room → (names₀ names : List ℕ) (x : Name) → NamePut t p i names₀ at names x → at + x.bytes ≤ room
+name_room t p i at room r names₀ names x s =
+    let w = s.name ++ (0 ∷ []) in
+    let g = (onward_grows t Number (r.names ++ w) r.numbers 0 x.end r.all_names r.all_numbers (sym (s.leads r.names r.numbers r.value) ∙ r.says)).0 in
+    let a = length-append r.names w in
+    let b = length-append s.name (0 ∷ []) in
+    let c = s.size in
+    let d = r.here in
+    let e = r.fits in
+    omega arith
 
 -- one byte more behind what was written
 pub put_one : (w u s : List ℕ) (at b : ℕ) → at + length s < length w → u ≡ splice w at s → set u (at + length s) b ≡ splice w at (s ++ (b ∷ []))
@@ -198,12 +210,12 @@ module _ (t : List ℕ) (i at room : ℕ) where
     fits = r.fits;
   }
 
-  pub name_opened : i < length t → get_or t i 0 ≡ quote → (names₀ names : List ℕ) (q : Put) → NamePut t Quoted (i + 1) names₀ at names q → NamePut t Start i names₀ at names q
+  pub name_opened : i < length t → get_or t i 0 ≡ quote → (names₀ names : List ℕ) (q : Name) → NamePut t Quoted (i + 1) names₀ at names q → NamePut t Start i names₀ at names q
   name_opened h e names₀ names q s = let a = s.ahead in record {
     name = s.name;
     ahead = omega arith;
     within = s.within;
-    behind = s.behind;
+    size = s.size;
     written = s.written;
     leads = λ n c v. opened_name t i h e n c v ∙ s.leads n c v;
   }
@@ -227,7 +239,7 @@ module _ (t : List ℕ) (i at room : ℕ) where
         let f = r.fits in
         omega arith
 
-    pub plain_put : room ≡ length names₀ → NamePut t Start i names₀ at (set u (at + (j - i)) 0) (record { end = j + 1; at = at + (j - i) + 1 })
+    pub plain_put : room ≡ length names₀ → NamePut t Start i names₀ at (set u (at + (j - i)) 0) (record { end = j + 1; bytes = j - i + 1 })
     plain_put q =
         let f = c.from in
         let w = c.within in
@@ -237,7 +249,7 @@ module _ (t : List ℕ) (i at room : ℕ) where
           name = between i j t;
           ahead = omega arith;
           within = omega arith;
-          behind = omega arith;
+          size = omega arith;
           written = ap (λ x. set u (at + x) 0) (sym l) ∙ put_one names₀ u (between i j t) at 0 (omega arith) c.written;
           leads = plain_leads;
         }
@@ -367,7 +379,7 @@ module _ (t : List ℕ) (i at room : ℕ) where
         pub last_room : k < length names₀
         last_room = one_more 0 Number 0 (j + 2) (sym (over_comma r.names r.numbers r.value) ∙ r.says)
 
-        pub quoted_put : NamePut t Quoted i names₀ at (set u k 0) (record { end = j + 2; at = k + 1 })
+        pub quoted_put : NamePut t Quoted i names₀ at (set u k 0) (record { end = j + 2; bytes = k + 1 - at })
         quoted_put =
             let f = c.from in
             let g = quote_goes in
@@ -377,7 +389,7 @@ module _ (t : List ℕ) (i at room : ℕ) where
               name = c.name;
               ahead = omega arith;
               within = omega arith;
-              behind = omega arith;
+              size = omega arith;
               written = ap (λ z. set u z 0) c.here ∙ put_one names₀ u c.name at 0 (omega arith) c.written;
               leads = λ n m v. over_comma n m v ∙ ap (λ z. onward t Number z m 0 (j + 2)) (append_assoc n c.name (0 ∷ []));
             }
@@ -411,11 +423,11 @@ module _ (t : List ℕ) (i at room : ℕ) where
         let f = q.fits in
         omega arith
 
-    pub quotes_put : room ≡ length names₀ → (names : List ℕ) (p : Put) → NamePut t Quoted j u (at + (j - i)) names p → NamePut t Quoted i names₀ at names p
+    pub quotes_put : room ≡ length names₀ → (names : List ℕ) (p : Name) → NamePut t Quoted j u (at + (j - i)) names p → NamePut t Quoted i names₀ at names (record { end = p.end; bytes = j - i + p.bytes })
     quotes_put q names p s =
         let f = c.from in
         let a = s.ahead in
-        let b = s.behind in
+        let b = s.size in
         let y = size in
         let o = quotes_there in
         let l = length-append (between i j t) s.name in
@@ -423,7 +435,7 @@ module _ (t : List ℕ) (i at room : ℕ) where
           name = between i j t ++ s.name;
           ahead = omega arith;
           within = s.within;
-          behind = omega arith;
+          size = omega arith;
           written = s.written ∙ ap (λ z. splice z (at + (j - i)) (s.name ++ (0 ∷ []))) c.written ∙ ap (λ z. splice (splice names₀ at (between i j t)) (at + z) (s.name ++ (0 ∷ []))) (sym y)
               ∙ splice_twice names₀ (between i j t) (s.name ++ (0 ∷ [])) at (omega arith) ∙ ap (splice names₀ at) (sym (append_assoc (between i j t) s.name (0 ∷ [])));
           leads = λ n m v. quoted_leads n m v ∙ s.leads (n ++ between i j t) m v
@@ -431,7 +443,7 @@ module _ (t : List ℕ) (i at room : ℕ) where
         }
 
   -- a row, of its parts
-  module _ (r : Readable t Start i at room) (names₀ names : List ℕ) (p : Put) (s : NamePut t Start i names₀ at names p) where
+  module _ (r : Readable t Start i at room) (names₀ names : List ℕ) (p : Name) (s : NamePut t Start i names₀ at names p) where
     abbrev so : List ℕ
     so = r.names ++ (s.name ++ (0 ∷ []))
 
@@ -447,14 +459,14 @@ module _ (t : List ℕ) (i at room : ℕ) where
       end_said None y = absurd (silent r.all_names r.all_numbers (sym (x.leads so r.numbers ∙ y so r.numbers x.number) ∙ numbered))
       end_said (Some end) y = refl
 
-      pub row_put_lem : (end : ℕ) → EndIs t d.end (Some end) → RowPutIs t i names₀ at names (record { end = end; at = p.at; value = d.value })
+      pub row_put_lem : (end : ℕ) → EndIs t d.end (Some end) → RowPut t i names₀ at names (record { end = end; bytes = p.bytes; value = d.value })
       unfolding NumberIs EndIs
       row_put_lem end y = let a = s.ahead in let b = x.ahead in let c = y.ahead in record {
         name = s.name;
         number = x.number;
         ahead = omega arith;
         within = y.within;
-        behind = s.behind;
+        size = s.size;
         kept = x.kept;
         written = s.written;
         leads = λ n m v. s.leads n m v ∙ x.leads (n ++ (s.name ++ (0 ∷ []))) m ∙ y.leads (n ++ (s.name ++ (0 ∷ []))) m x.number;

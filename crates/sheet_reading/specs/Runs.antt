@@ -1,8 +1,9 @@
 -- Runs: bytes one after the other that pass a test, up to the first that does not. Assumes nothing.
-use Rattle.std.specs.Prelude.{◌≡◌, refl, Bool, true, false, List, [], ◌∷◌, ◌++◌, ℕ, suc, ◌+◌, ◌-◌, ◌*◌, ◌≤◌, ◌<◌, length, take, drop, get_or}
+use Rattle.std.specs.Prelude.{◌≡◌, refl, Bool, true, false, List, [], ◌∷◌, ◌++◌, ℕ, zero, suc, ◌+◌, ◌-◌, ◌*◌, ◌≤◌, ◌<◌, length, take, drop, get_or}
 use Rattle.std.proofs.lemmas.Slice.{between_to_end}
 use Rattle.std.proofs.lemmas.List.{get_or_default}
-use Rattle.std.proofs.Common.{nat_lt, ltb-true, add-zero, ap, sym, ◌∙◌, arith, length-drop, take-append-drop, take-suc, take-add, length-take-le, get_or-drop, drop-drop}
+use Rattle.std.specs.List.{AllWithin, HoldsAt}
+use Rattle.std.proofs.Common.{nat_lt, ltb-true, add-zero, ap, sym, subst, ◌∙◌, arith, length-drop, take-append-drop, take-suc, take-add, length-take-le, get_or-drop, drop-drop}
 use Rattle.lists.specs.Basics.{every}
 use Rattle.lists.specs.Merge.{every_append}
 use Rattle.sheets.specs.Grammar.{worth}
@@ -24,11 +25,14 @@ pub looked_up : (t : List ℕ) (i x : ℕ) → true ≡ nat_lt i (length t) → 
 looked_up t i x h e = let l = ltb-true _ _ (sym h) in (l, e ∙ get_or_default t i x 0 l)
 
 -- the rest of a text, and its first two bytes
+rest_at : (i k : ℕ) (t : List ℕ) → get_or (between i (length t) t) k 0 ≡ get_or t (i + k) 0
+rest_at i k t = ap (λ l. get_or l k 0) (between_to_end t i (length t) (omega arith)) ∙ get_or-drop i t k 0
+
 pub rest_first : (i : ℕ) (t : List ℕ) → get_or (between i (length t) t) 0 0 ≡ get_or t i 0
-rest_first i t = ap (λ l. get_or l 0 0) (between_to_end t i (length t) (omega arith)) ∙ get_or-drop i t 0 0 ∙ ap (λ k. get_or t k 0) (add-zero i)
+rest_first i t = rest_at i 0 t ∙ ap (λ k. get_or t k 0) (add-zero i)
 
 pub rest_second : (i : ℕ) (t : List ℕ) → get_or (between i (length t) t) 1 0 ≡ get_or t (i + 1) 0
-rest_second i t = ap (λ l. get_or l 1 0) (between_to_end t i (length t) (omega arith)) ∙ get_or-drop i t 1 0
+rest_second i t = rest_at i 1 t
 
 pub length_rest : (i : ℕ) (t : List ℕ) → length (between i (length t) t) ≡ length t - i
 length_rest i t = ap length (between_to_end t i (length t) (omega arith)) ∙ length-drop i t
@@ -54,6 +58,38 @@ every_between f i j t h k e q = ap (every f) (between_more i j t h k) ∙ every_
 pub every_empty : (f : ℕ → Bool) (i : ℕ) (t : List ℕ) → every f (between i i t) ≡ true
 unfolding every
 every_empty f i t = ap (every f) (between_none i t)
+
+-- a run found in the rest of a text, by what is known of each byte of it
+module _ (f : ℕ → Bool) (t : List ℕ) (i : ℕ) (small : (k : ℕ) → get_or t k 0 < 256) where
+  said_at : (b : Bool) (n : ℕ) → HoldsAt (λ x. x < 256 → f x ≡ b) (between i (length t) t) n → f (get_or t (i + n) 0) ≡ b
+  said_at b n h = subst (λ x. x < 256 → f x ≡ b) (rest_at i n t) (h 0) (small (i + n))
+
+  passed_all : (n : ℕ) → i + n ≤ length t → AllWithin (λ x. x < 256 → f x ≡ true) (between i (length t) t) 0 n → every f (between i (i + n) t) ≡ true
+  passed_all zero h a = ap (λ j. every f (between i j t)) (add-zero i) ∙ every_empty f i t
+  passed_all (suc n) h a =
+      let e : i + suc n ≡ i + n + 1 = omega arith in
+      ap (λ j. every f (between i j t)) e
+      ∙ every_between f i (i + n) t (omega arith) (omega arith) (passed_all n (omega arith) (λ k d l m. a k d l (omega arith))) (said_at true n (λ d. a n d (omega arith) (omega arith)))
+
+  pub run_found : (n : ℕ) → n < length (between i (length t) t) → HoldsAt (λ x. x < 256 → f x ≡ false) (between i (length t) t) n → AllWithin (λ x. x < 256 → f x ≡ true) (between i (length t) t) 0 n
+      → RunTo f t i (i + n)
+  run_found n l h a = let z = length_rest i t in record {
+    from = omega arith;
+    within = omega arith;
+    passed = passed_all n (omega arith) a;
+    stopped = λ _. said_at false n h;
+  }
+
+  pub run_to_end : i ≤ length t → AllWithin (λ x. x < 256 → f x ≡ true) (between i (length t) t) 0 (length (between i (length t) t)) → RunTo f t i (length t)
+  run_to_end h a =
+      let z = length_rest i t in
+      let e : i + length (between i (length t) t) ≡ length t = omega arith in
+      record {
+        from = h;
+        within = omega arith;
+        passed = sym (ap (λ j. every f (between i j t)) e) ∙ passed_all _ (omega arith) a;
+        stopped = λ l. absurd (omega arith);
+      }
 
 -- the rest of a text, cut at a later place
 pub rest_between : (i j : ℕ) (t : List ℕ) → i ≤ j → drop i t ≡ between i j t ++ drop j t

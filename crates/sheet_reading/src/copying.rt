@@ -1,14 +1,14 @@
-// A row of a sheet that was judged: its name into the lent names, its number handed back. That the text is a sheet and the names are long
+// A row of a sheet that was judged: its name into the lent names, its bytes and number handed back. That the text is a sheet and the names are long
 // enough is known, so no byte of a name is looked at but for the one that ends it. Text, names and a place in each are passed on one by one: a
 // struct of them would be taken apart again in each function, since each goes on from other places.
 ghost use Rattle.std.specs.Prelude.{◌≡◌, ◌<◌, length, get_or};
 ghost use Rattle.sheets.specs.Grammar.{quote};
 ghost use Rattle.sheets.specs.declared.Place.TheVariants.{Start, Quoted};
-ghost use Rattle.sheet_reading.specs.Put.{Readable, Copies, place_for, test_for, Copied, NamePut, RowPutIs};
+ghost use Rattle.sheet_reading.specs.Put.{Readable, Copies, place_for, test_for, Copied, NamePut, RowPut};
 
 use crate::judging::row_end;
 use crate::numbers::number_at;
-use crate::{Put, RowPut};
+use crate::{Name, Row};
 use sheets::{COMMA, QUOTE};
 
 // The bytes of a name up to the one that ends them, to a place of the names on. Names are short: with `run_end` and `copy_from_slice` in the place
@@ -27,7 +27,7 @@ fn copy_until(text: &[u8], from: usize, names: &mut [u8], at: usize, stop: u8) -
 }
 
 // The rest of a quoted name, from a quote on. A quote behind it is a byte of the name; any other byte there is the comma.
-fn copy_quotes(text: &[u8], from: usize, names: &mut [u8], at: usize) -> Put
+fn copy_quotes(text: &[u8], from: usize, names: &mut [u8], at: usize) -> Name
     requires { (from < length text.now) × (get_or text.now from 0 ≡ quote) × Readable text.now Quoted from at (length names.old) }
     ensures { NamePut text.now Quoted from names.old at names.new result }
 {
@@ -41,22 +41,26 @@ fn copy_quotes(text: &[u8], from: usize, names: &mut [u8], at: usize) -> Put
         k = k + 1 + (i - next);
     }
     names[k] = 0;
-    Put {
+    Name {
         end: i + 2,
-        at: k + 1,
+        bytes: k + 1 - at,
     }
 }
 
 // A quoted name, from behind its first quote on.
-fn copy_quoted(text: &[u8], from: usize, names: &mut [u8], at: usize) -> Put
+fn copy_quoted(text: &[u8], from: usize, names: &mut [u8], at: usize) -> Name
     requires { Readable text.now Quoted from at (length names.old) }
     ensures { NamePut text.now Quoted from names.old at names.new result }
 {
     let q = copy_until(text, from, names, at, QUOTE);
-    copy_quotes(text, q, names, at + (q - from))
+    let rest = copy_quotes(text, q, names, at + (q - from));
+    Name {
+        end: rest.end,
+        bytes: q - from + rest.bytes,
+    }
 }
 
-fn copy_name(text: &[u8], from: usize, names: &mut [u8], at: usize) -> Put
+fn copy_name(text: &[u8], from: usize, names: &mut [u8], at: usize) -> Name
     requires { (from < length text.now) × Readable text.now Start from at (length names.old) }
     ensures { NamePut text.now Start from names.old at names.new result }
 {
@@ -64,24 +68,24 @@ fn copy_name(text: &[u8], from: usize, names: &mut [u8], at: usize) -> Put
         return copy_quoted(text, from + 1, names, at);
     }
     let e = copy_until(text, from, names, at, COMMA);
-    let k = at + (e - from);
-    names[k] = 0;
-    Put {
+    let length = e - from;
+    names[at + length] = 0;
+    Name {
         end: e + 1,
-        at: k + 1,
+        bytes: length + 1,
     }
 }
 
 // The row has a number and an end: the text was judged.
-pub(crate) fn copy_row(text: &[u8], from: usize, names: &mut [u8], at: usize) -> RowPut
+pub(crate) fn copy_row(text: &[u8], from: usize, names: &mut [u8], at: usize) -> Row
     requires { (from < length text.now) × Readable text.now Start from at (length names.old) }
-    ensures { RowPutIs text.now from names.old at names.new result }
+    ensures { RowPut text.now from names.old at names.new result }
 {
     let name = copy_name(text, from, names, at);
     let number = number_at(text, name.end).unwrap();
-    RowPut {
+    Row {
         end: row_end(text, number.end).unwrap(),
-        at: name.at,
+        bytes: name.bytes,
         value: number.value,
     }
 }

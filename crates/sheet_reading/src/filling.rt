@@ -8,8 +8,9 @@ use crate::copying::copy_row;
 use crate::identifiers::Identifier;
 use crate::judging::judge;
 use protocol::Refusal;
-use sheets::{Counts, word_of};
+use sheets::Counts;
 
+// The text was judged: each row has its identifier, and there is room for all.
 fn fill<T: Identifier>(text: &[u8], identifiers: &mut [T], names: &mut [u8])
     requires { Roomy (reading text.now) T.form (length (T.held identifiers.old)) (length names.old) }
     ensures { AllFilled T.form text.now (T.held identifiers.old) names.old (T.held identifiers.new) names.new }
@@ -20,14 +21,14 @@ fn fill<T: Identifier>(text: &[u8], identifiers: &mut [T], names: &mut [u8])
     // No `for`: a step is a row of the text.
     while i < text.len() {
         let r = copy_row(text, i, names, at);
-        T::put(identifiers, row, word_of(r.value));
+        T::put(identifiers, row, r.value.unwrap());
         row += 1;
-        at = r.at;
+        at += r.bytes;
         i = r.end;
     }
 }
 
-// Rows and bytes are counted before anything is written, so that a refusal writes nothing.
+// All is asked before anything is written, so that a refusal writes nothing.
 fn read<T: Identifier>(
     text: &[u8],
     identifiers: &mut [T],
@@ -35,18 +36,13 @@ fn read<T: Identifier>(
 ) -> Result<Counts, Refusal>
     ensures { read_into T.form (T.held identifiers.old) names.old (reading text.now) ≡ record { outcome = result; identifiers = T.held identifiers.new; names = names.new } }
 {
-    let sheet = judge(text).ok_or(Refusal::NoSheet)?;
-    if !sheet.fits {
-        return Err(Refusal::IdentifierTooLarge);
-    }
-    if T::room(identifiers) < sheet.rows || names.len() < sheet.bytes {
-        return Err(Refusal::RoomShort);
-    }
+    let room = Counts {
+        rows: T::room(identifiers),
+        bytes: names.len(),
+    };
+    let counts = judge(text, room)?;
     fill(text, identifiers, names);
-    Ok(Counts {
-        rows: sheet.rows,
-        bytes: sheet.bytes,
-    })
+    Ok(counts)
 }
 
 pub fn read_sheet(text: &[u8], identifiers: &mut [u32], names: &mut [u8]) -> Result<Counts, Refusal>

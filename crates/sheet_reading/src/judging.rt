@@ -1,13 +1,14 @@
-// A sheet judged, row by row: is it one, do its identifiers fit, how many rows and bytes of names does it say?
+// A sheet judged, row by row: is it one, do its identifiers fit, how many rows and bytes of names does it say, and is there room for them?
 ghost use Rattle.std.specs.Prelude.{◌≡◌, ◌≤◌, ◌<◌, length};
 ghost use Rattle.sheets.specs.Reader.{reading};
 ghost use Rattle.sheet_reading.specs.Judged.{EndIs, RowIs};
 ghost use Rattle.sheet_reading.specs.Filled.{judged};
 
+use crate::Row;
 use crate::bytes::Kinds;
 use crate::numbers::number_at;
-use crate::{Row, Sheet};
-use sheets::{CR, LF};
+use protocol::Refusal;
+use sheets::{CR, Counts, LF};
 
 // Behind a number: the end of the text, or CR LF.
 pub(crate) fn row_end(text: &[u8], from: usize) -> Option<usize>
@@ -37,9 +38,10 @@ impl Kinds {
     }
 }
 
-// All of the text is looked at, so that whoever calls can ask for 19 before 20.
-pub(crate) fn judge(text: &[u8]) -> Option<Sheet>
-    ensures { result ≡ judged (reading text.now) }
+// The questions in the order of their numbers, where there is room for so many rows and bytes: all of the text is looked at before 20 is asked, and
+// 20 is asked of all identifiers before 21.
+pub(crate) fn judge(text: &[u8], room: Counts) -> Result<Counts, Refusal>
+    ensures { result ≡ judged room (reading text.now) }
 {
     let kinds = Kinds::new();
     let mut rows = 0;
@@ -48,11 +50,17 @@ pub(crate) fn judge(text: &[u8]) -> Option<Sheet>
     let mut i = 0;
     // No `for`: a step is a row of the text.
     while i < text.len() {
-        let row = kinds.row_at(text, i)?;
+        let row = kinds.row_at(text, i).ok_or(Refusal::NoSheet)?;
         rows += 1;
         bytes += row.bytes;
-        fits = fits & (row.value <= 4294967295);
+        fits = fits & row.value.is_some();
         i = row.end;
     }
-    Some(Sheet { rows, bytes, fits })
+    if !fits {
+        return Err(Refusal::IdentifierTooLarge);
+    }
+    if room.rows < rows || room.bytes < bytes {
+        return Err(Refusal::RoomShort);
+    }
+    Ok(Counts { rows, bytes })
 }

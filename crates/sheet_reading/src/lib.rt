@@ -13,18 +13,18 @@ mod runs;
 
 pub use filling::{read_sheet, read_sheet_bytes};
 
-// A name with its comma: where the number behind it begins, and how many bytes it takes in the names, its zero byte included.
+// A name with its comma, judged or copied: where the number behind it begins, and how many bytes it takes in the names, its zero byte included.
 #[derive(Clone, Copy)]
 pub struct Name {
     pub end: usize,
     pub bytes: usize,
 }
 
-// Digits one after the other: where they end, and the number that they make, up to 2^32, which is already too large for an identifier.
+// Digits one after the other: where they end, and the identifier that they make; none where the number is too large for one.
 #[derive(Clone, Copy)]
 pub struct Run {
     pub end: usize,
-    pub value: usize,
+    pub value: Option<u32>,
 }
 
 // A row: where the next one begins, and what name and number are as above.
@@ -32,28 +32,5 @@ pub struct Run {
 pub struct Row {
     pub end: usize,
     pub bytes: usize,
-    pub value: usize,
-}
-
-// A sheet of so many rows and bytes of names, whose identifiers all fit a word or not.
-#[derive(Clone, Copy)]
-pub struct Sheet {
-    pub rows: usize,
-    pub bytes: usize,
-    pub fits: bool,
-}
-
-// A name written: where the number behind it begins, and the place behind the name in the names.
-#[derive(Clone, Copy)]
-pub struct Put {
-    pub end: usize,
-    pub at: usize,
-}
-
-// A row written, up to its number: where the next row begins, the place behind its name, and the number.
-#[derive(Clone, Copy)]
-pub struct RowPut {
-    pub end: usize,
-    pub at: usize,
-    pub value: usize,
+    pub value: Option<u32>,
 }

@@ -12,10 +12,8 @@ pub(crate) fn run_end<F: Fn(u8) -> bool>(text: &[u8], from: usize, passes: F) ->
     ensures inside { result ≤ length text.now }
     ensures runs { (test : ℕ → Bool) → ((b : ℕ) (r : Bool) → b < 256 → F.post passes b r → r ≡ test b) → RunTo test text.now from result }
 {
-    for i in from..text.len() {
-        if !passes(text[i]) {
-            return i;
-        }
+    match text[from..].iter().position(|b| !passes(*b)) {
+        Some(n) => from + n,
+        None => text.len(),
     }
-    text.len()
 }

@@ -2,7 +2,7 @@
 // writing one gives, is in specs/; here is what both ways share.
 #![tactic(auto)]
 
-ghost use Rattle.std.specs.Prelude.{◌≡◌, [], ◌∷◌, ◌+◌, ◌-◌, ◌≤◌, ◌<◌, min, length};
+ghost use Rattle.std.specs.Prelude.{◌≡◌, [], ◌∷◌, ◌+◌, ◌-◌, ◌≤◌, ◌<◌, length};
 ghost use Rattle.lists.specs.Splice.{splice};
 ghost use Rattle.sheets.specs.Grammar.{is_digit, bare as bare_spec};
 
@@ -67,21 +67,15 @@ pub fn bare(b: u8) -> bool
 pub fn is_digit(b: u8) -> bool
     ensures { result ≡ is_digit b }
 {
-    (48 <= b) & (b <= 57)
+    b.is_ascii_digit()
 }
 
-// The value of a digit; of a byte below all digits, which is never read as one, 0.
+// The value of a digit; of a byte below all digits, which is never read as one, 0. A function, since it states a rule of the reader (`valued` in
+// specs/Reader.antt) and is plainer than the library's way, over a char to an Option.
 pub fn digit_value(b: u8) -> usize
     ensures { (result ≡ b - 48) × (result < 256) }
 {
     usize::from(b.saturating_sub(48))
-}
-
-// The word of a number; of a larger one, which is refused before it is used, the largest word.
-pub fn word_of(value: usize) -> u32
-    ensures { result ≡ min value 4294967295 }
-{
-    u32::try_from(value).unwrap_or(u32::MAX)
 }
 
 // One byte, at a place of a buffer. The place behind it is returned.

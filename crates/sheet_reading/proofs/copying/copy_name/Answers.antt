@@ -16,11 +16,11 @@ pub copy_until-e-requires : goal.copy_until-e-requires
 unfolding place_for test_for when◌then◌else◌
 copy_until-e-requires c = (plain_copies, unquoted_name c.args.text.now c.args.from c.args.at (length c.args.names.now) c.requires.0 c.if-text-from-eq-QUOTE.false c.requires.1)
 
-pub overflow_add-k : goal.overflow_add-k
-overflow_add-k c = let g = zero_room c.args.text.now c.args.from c.args.at (length c.args.names.now) c.requires.1 c.requires.0 c.if-text-from-eq-QUOTE.false c.args.names.now _ c.copy_until-e.result c.copy_until-e.ensures in omega arith
+pub overflow_add-names : goal.overflow_add-names
+overflow_add-names c = let g = zero_room c.args.text.now c.args.from c.args.at (length c.args.names.now) c.requires.1 c.requires.0 c.if-text-from-eq-QUOTE.false c.args.names.now _ c.copy_until-e.result c.copy_until-e.ensures in omega arith
 
-pub bounds-names-k : goal.bounds-names-k
-bounds-names-k c = let g = zero_room c.args.text.now c.args.from c.args.at (length c.args.names.now) c.requires.1 c.requires.0 c.if-text-from-eq-QUOTE.false c.args.names.now _ c.copy_until-e.result c.copy_until-e.ensures in let k = c.copy_until-e.auto.names in omega arith
+pub bounds-names-at : goal.bounds-names-at
+bounds-names-at c = let g = zero_room c.args.text.now c.args.from c.args.at (length c.args.names.now) c.requires.1 c.requires.0 c.if-text-from-eq-QUOTE.false c.args.names.now _ c.copy_until-e.result c.copy_until-e.ensures in let k = c.copy_until-e.auto.names in omega arith
 
 pub overflow_add-result-2 : goal.overflow_add-result-2
 overflow_add-result-2 c = let g = zero_room c.args.text.now c.args.from c.args.at (length c.args.names.now) c.requires.1 c.requires.0 c.if-text-from-eq-QUOTE.false c.args.names.now _ c.copy_until-e.result c.copy_until-e.ensures in omega arith
