@@ -9,7 +9,7 @@ use card_checks::{checked_names, nearest};
 use protocol::form::{CARD_WORDS, CARDS_AT, MARKS_AT, MOST_CARDS};
 use protocol::{Answer, Card, Refusal};
 
-// The place of the card of a machine.
+// The place of the card of a machine. (What is asked of k stands in each contract, as for a record: the slice is the caller's, of any length.)
 fn find_card(k: &[u32], machine: u32) -> Option<u32>
     requires { (cards_in k.now ≤ most_cards) × (book_size ≤ length k.now) }
     ensures { MatchOption result (first (λ j. nat_eq (get_or k.now (card_start j) 0) machine) (cards_in k.now) ≡ cards_in k.now) (λ j. (j ≡ first (λ i. nat_eq (get_or k.now (card_start i) 0) machine) (cards_in k.now)) × (j < cards_in k.now)) }

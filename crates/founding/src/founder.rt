@@ -5,7 +5,7 @@ ghost use Rattle.protocol.specs.Fresh.{alone, founder_of, smallest as smallest_s
 use protocol::form::NONE;
 use protocol::{Row, states};
 
-// The node with the smallest identifier; 0 where there is none.
+// The node with the smallest identifier, the first of several; 0 where there is none.
 fn smallest(identifiers: &[u32]) -> usize
     ensures { result ≡ smallest_spec identifiers.now }
 {

@@ -4,7 +4,7 @@ use crate::inquiries::{Inquiry, read_inquiry};
 use crate::waiting::waiting;
 use frames::{decode, fresh_ring};
 use protocol::form::RECORD_WORDS;
-use protocol::{Answer, Frame, Refusal, Tally, answer_kinds};
+use protocol::{Answer, Frame, Refusal, Tally};
 use std::fmt;
 use std::fmt::Write;
 use wording::{Answered, Counted, Given, HubRow, Numbered, Places, UNWRITTEN};
@@ -15,22 +15,6 @@ pub struct Session {
     record: [u32; KEPT_WORDS],
     tally: Tally,
     lent: usize,
-}
-
-// The count in a place, which has the number of the kind of answer that it counts, is overwritten.
-fn set_count(t: &mut Tally, place: u32, count: u64) {
-    match place {
-        answer_kinds::QUIET => t.quiet = count,
-        answer_kinds::FOUND => t.found = count,
-        answer_kinds::ENTERED => t.entered = count,
-        answer_kinds::GONE => t.gone = count,
-        answer_kinds::JOIN_TURNED_AWAY => t.join_turned_away = count,
-        answer_kinds::LEAVE_TURNED_AWAY => t.leave_turned_away = count,
-        answer_kinds::JOINED => t.joined = count,
-        answer_kinds::LEFT => t.left = count,
-        answer_kinds::REFUSAL => t.refused = count,
-        _ => {}
-    }
 }
 
 impl Session {
@@ -94,7 +78,7 @@ impl Session {
                 write!(out, "word {place}: {value}")
             }
             Inquiry::Count(place, value) => {
-                set_count(&mut self.tally, place, value);
+                self.tally = tally::changed_at(place, self.tally, |_| value);
                 write!(out, "count {place}: {value}")
             }
         }

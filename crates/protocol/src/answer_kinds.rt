@@ -1,5 +1,6 @@
 // The kinds of an answer, by document 01's numbers ('Answers'). specs/Names.antt has the same names.
-// No enum of their own: an answer is one (`Answer`), and these are the words by which C reads it.
+// No enum of their own: an answer is one (`Answer`), and these are the words by which C and a line of `ringrun` read it, the places of a tally's
+// counts, and what stands in a route's places, where any word may be lent.
 pub const QUIET: u32 = 0;
 
 pub const FOUND: u32 = 1;

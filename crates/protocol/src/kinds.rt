@@ -1,5 +1,6 @@
 // The fourteen kinds of message, by document 01's numbers.
-// No enum: a message is six words that callers in C lend, and until the record was found well formed any of them may stand there.
+// No enum: a message is six words that callers in C lend, and until the record was found well formed any of them may stand there. (An enum in `Message`
+// would ask of whoever makes one that its kind is known.)
 pub const LOOKUP: u32 = 1;
 
 pub const JOIN: u32 = 2;

@@ -1,4 +1,5 @@
-// 1 join, 2 leave, 3 deliver.
+// 1 join, 2 leave, 3 deliver. (Each asks its own questions, in the document's order and with the number of each beside it, so that it can be held
+// against the document line by line; that some begin alike is not said once more elsewhere.)
 ghost use Rattle.std.specs.Prelude.{◌≡◌};
 ghost use Rattle.protocol.specs.Record.{read};
 ghost use Rattle.protocol.specs.Step.{join as join_spec, leave as leave_spec, deliver as deliver_spec};

@@ -9,7 +9,7 @@ use crate::commands::{deliver, join, leave};
 use protocol::{Answer, Refusal};
 
 // 'operation 0 to 3? 3.' On a record that has passed questions 1 and 2. (A match and no table of functions: the numbers are the document's, and
-// the commands take other arguments.)
+// the commands take other arguments. Three numbers and no struct of them: so they come from C and from a line.)
 pub fn run(w: &mut [u32], operation: u32, x: u32, y: u32) -> Result<Answer, Refusal>
     requires { Valid w.old }
     ensures { written w.old (step_spec (read w.old) operation x y) ≡ record { outcome = result; slice = w.new } }

@@ -42,7 +42,8 @@ pub fn loaded<const N: usize>(b: &[u8]) -> Result<[u32; N], Refusal>
     Ok(w)
 }
 
-// All words, from the first byte on. The bytes behind them stay.
+// All words, from the first byte on. The bytes behind them stay. (How long the bytes are is a clause here and at `load`, and no type: C lends them, of
+// any length.)
 pub fn save(b: &mut [u8], w: &[u32])
     requires { 4 * length w.now ≤ length b.old }
     ensures { b.new ≡ over b.old w.now }
