@@ -67,8 +67,7 @@ fn quoted_number(text: &[u8], from: usize) -> Option<Run>
     })
 }
 
-// The number behind a comma. Inlined where a sheet is judged and where it is written, since the call would hand the Option back through memory, by
-// which reading a plain sheet took a seventh longer.
+// The number behind a comma. Inlined, as `row_of` is.
 #[inline(always)]
 pub(crate) fn number_at(text: &[u8], from: usize) -> Option<Run>
     requires { from ≤ length text.now }
