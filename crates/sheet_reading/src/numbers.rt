@@ -24,7 +24,8 @@ fn large(text: &[u8], from: usize, value: usize) -> Run
     }
 }
 
-// The loop is left at the tenth figure, so that it need not look at each whether the number still fits.
+// The loop is left at the tenth figure, so that it need not look at each whether the number still fits. (A chain would have to carry place and value
+// side by side, to leave with both.)
 pub(crate) fn digits(text: &[u8], from: usize) -> Run
     requires { from ≤ length text.now }
     ensures { RunIs text.now from result }
