@@ -98,6 +98,19 @@ unfoldable pub EndIs : List ℕ → ℕ → Option ℕ → Type 0
 EndIs t i None = Silent t NumberClosed i
 EndIs t i (Some end) = EndSaid t i end
 
+-- What is behind a name: the row's number and its end.
+pub record RestSaid (t : List ℕ) (x : Name) (y : Row) : Type 0 where
+  pub number : ℕ
+  pub size : y.bytes ≡ x.bytes
+  pub kept : y.value ≡ word_of number
+  pub ahead : x.end < y.end
+  pub within : y.end ≤ length t
+  pub leads : (n c : List ℕ) → onward t Number n c 0 x.end ≡ onward t Start n (c ++ (number ∷ [])) number y.end
+
+unfoldable pub RestIs : List ℕ → Name → Option Row → Type 0
+RestIs t x None = (n c : List ℕ) → onward t Number n c 0 x.end ≡ nothing
+RestIs t x (Some y) = RestSaid t x y
+
 -- A row.
 pub record RowSaid (t : List ℕ) (i end bytes : ℕ) (value : Option ℕ) : Type 0 where
   pub name : List ℕ
@@ -388,30 +401,43 @@ module _ (t : List ℕ) where
       go true e = end_cut i (omega arith) (eqb-true _ _ e) q
       go false e = end_stops i (omega arith) (eqb-false _ _ e)
 
-  -- a row, of its parts
+  -- what is behind a name, of its parts
+  module _ (x : Name) where
+    pub rest_no_number : NumberIs t Number x.end None → RestIs t x None
+    unfolding NumberIs RestIs
+    rest_no_number s = s
+
+    module _ (y : Run) (b : NumberIs t Number x.end (Some y)) where
+      pub rest_no_end : EndIs t y.end None → RestIs t x None
+      unfolding NumberIs EndIs RestIs
+      rest_no_end s n c = b.leads n c ∙ s n c b.number
+
+      pub rest_read : (end : ℕ) → EndIs t y.end (Some end) → RestIs t x (Some (record { end = end; bytes = x.bytes; value = y.value }))
+      unfolding NumberIs EndIs RestIs
+      rest_read end s = let v = b.ahead in let w = s.ahead in record {
+        number = b.number;
+        size = refl;
+        kept = b.kept;
+        ahead = omega arith;
+        within = s.within;
+        leads = λ n c. b.leads n c ∙ s.leads n c b.number;
+      }
+
+  -- a row
   module _ (i : ℕ) where
     pub row_no_name : NameIs t Start i None → RowIs t i None
     unfolding NameIs RowIs
     row_no_name s = s
 
-    module _ (x : Name) (a : NameIs t Start i (Some x)) where
-      pub row_no_number : NumberIs t Number x.end None → RowIs t i None
-      unfolding NameIs NumberIs RowIs
-      row_no_number s n c v = a.leads n c v ∙ s (n ++ (a.name ++ (0 ∷ []))) c
-
-      module _ (y : Run) (b : NumberIs t Number x.end (Some y)) where
-        pub row_no_end : EndIs t y.end None → RowIs t i None
-        unfolding NameIs NumberIs EndIs RowIs
-        row_no_end s n c v = a.leads n c v ∙ b.leads (n ++ (a.name ++ (0 ∷ []))) c ∙ s (n ++ (a.name ++ (0 ∷ []))) c b.number
-
-        pub row_read : (end : ℕ) → EndIs t y.end (Some end) → RowIs t i (Some (record { end = end; bytes = x.bytes; value = y.value }))
-        unfolding NameIs NumberIs EndIs RowIs
-        row_read end s = let u = a.ahead in let v = b.ahead in let w = s.ahead in record {
-          name = a.name;
-          number = b.number;
-          size = a.size;
-          kept = b.kept;
-          ahead = omega arith;
-          within = s.within;
-          leads = λ n c v. a.leads n c v ∙ b.leads (n ++ (a.name ++ (0 ∷ []))) c ∙ s.leads (n ++ (a.name ++ (0 ∷ []))) c b.number;
-        }
+    pub row_read : (x : Name) → NameIs t Start i (Some x) → (r : Option Row) → RestIs t x r → RowIs t i r
+    unfolding NameIs RestIs RowIs
+    row_read x a None s = λ n c v. a.leads n c v ∙ s (n ++ (a.name ++ (0 ∷ []))) c
+    row_read x a (Some y) s = let u = a.ahead in let v = s.ahead in let w = a.size in let z = s.size in record {
+      name = a.name;
+      number = s.number;
+      size = omega arith;
+      kept = s.kept;
+      ahead = omega arith;
+      within = s.within;
+      leads = λ n c v. a.leads n c v ∙ s.leads (n ++ (a.name ++ (0 ∷ []))) c;
+    }

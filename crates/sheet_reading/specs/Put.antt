@@ -14,7 +14,6 @@ use Rattle.lists.specs.Basics.{when◌then◌else◌, every}
 use Rattle.lists.specs.Splice.{splice}
 use Rattle.sheet_reading.specs.declared.Name.{Name}
 use Rattle.sheet_reading.specs.declared.Row.{Row}
-use Rattle.sheet_reading.specs.declared.Run.{Run}
 use Rattle.sheets.specs.Grammar.{quote, comma}
 use Rattle.sheet_reading.specs.Kinds.{plain_byte, quoted_byte}
 use Rattle.sheets.specs.declared.Place.{Place}
@@ -27,7 +26,7 @@ use Rattle.sheet_reading.specs.Runs.{between, between_none, between_more, length
 use Rattle.sheet_reading.specs.Nexts
 use Rattle.sheet_reading.specs.Onward.{onward, onward_end, onward_wrong, onward_closed, onward_letter, onward_quoted, onward_number, onward_as, names_over, plain_stays, quoted_stays, plain_over, quoted_over, onward_grows}
 use Rattle.sheets.specs.Laying.{splice_none, splice_one, splice_twice, length_splice}
-use Rattle.sheet_reading.specs.Judged.{word_of, NumberIs, EndIs, opened_name}
+use Rattle.sheet_reading.specs.Judged.{word_of, RestIs, opened_name}
 
 -- A reader at this place of the text that has said names of `at` bytes, and reads on to the end: all names have this room.
 pub record Readable (t : List ℕ) (p : Place) (i at room : ℕ) : Type 0 where
@@ -39,10 +38,6 @@ pub record Readable (t : List ℕ) (p : Place) (i at room : ℕ) : Type 0 where
   pub says : onward t p names numbers value i ≡ lists all_names all_numbers
   pub here : at ≡ length names
   pub fits : length all_names ≤ room
-
--- A reader behind a comma that reads on to the end.
-abbrev pub NumberThere : List ℕ → ℕ → Type 0
-NumberThere t i = (n : List ℕ) × (c : List ℕ) × (x : List ℕ) × (y : List ℕ) × (onward t Number n c 0 i ≡ lists x y)
 
 -- Bytes that pass the test are bytes of the name; of the others only `stop` may follow.
 pub record Copies (p : Place) (stop : ℕ) (f : ℕ → Bool) : Type 0 where
@@ -450,30 +445,20 @@ module _ (t : List ℕ) (i at room : ℕ) where
     numbered : onward t Number so r.numbers 0 p.end ≡ lists r.all_names r.all_numbers
     numbered = sym (s.leads r.names r.numbers r.value) ∙ r.says
 
-    pub number_there : NumberThere t p.end
-    number_there = (so, r.numbers, r.all_names, r.all_numbers, numbered)
+    pub rest_there : (r : Option Row) → RestIs t p r → IsSome r
+    unfolding RestIs
+    rest_there None x = absurd (silent r.all_names r.all_numbers (sym (x so r.numbers) ∙ numbered))
+    rest_there (Some y) x = refl
 
-    module _ (d : Run) (x : NumberIs t Number p.end (Some d)) where
-      pub end_said : (e : Option ℕ) → EndIs t d.end e → IsSome e
-      unfolding NumberIs EndIs
-      end_said None y = absurd (silent r.all_names r.all_numbers (sym (x.leads so r.numbers ∙ y so r.numbers x.number) ∙ numbered))
-      end_said (Some end) y = refl
-
-      pub row_put_lem : (end : ℕ) → EndIs t d.end (Some end) → RowPut t i names₀ at names (record { end = end; bytes = p.bytes; value = d.value })
-      unfolding NumberIs EndIs
-      row_put_lem end y = let a = s.ahead in let b = x.ahead in let c = y.ahead in record {
-        name = s.name;
-        number = x.number;
-        ahead = omega arith;
-        within = y.within;
-        size = s.size;
-        kept = x.kept;
-        written = s.written;
-        leads = λ n m v. s.leads n m v ∙ x.leads (n ++ (s.name ++ (0 ∷ []))) m ∙ y.leads (n ++ (s.name ++ (0 ∷ []))) m x.number;
-      }
-
--- the number is there
-pub number_said : (t : List ℕ) (i : ℕ) → NumberThere t i → (r : Option Run) → NumberIs t Number i r → IsSome r
-unfolding NumberIs
-number_said t i there None x = absurd (silent there.2 there.3 (sym (x there.0 there.1) ∙ there.4))
-number_said t i there (Some d) x = refl
+    pub row_put : (y : Row) → RestIs t p (Some y) → RowPut t i names₀ at names y
+    unfolding RestIs
+    row_put y x = let a = s.ahead in let b = x.ahead in let c = x.size in let d = s.size in record {
+      name = s.name;
+      number = x.number;
+      ahead = omega arith;
+      within = x.within;
+      size = omega arith;
+      kept = x.kept;
+      written = s.written;
+      leads = λ n m v. s.leads n m v ∙ x.leads (n ++ (s.name ++ (0 ∷ []))) m;
+    }

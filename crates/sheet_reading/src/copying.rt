@@ -6,8 +6,7 @@ ghost use Rattle.sheets.specs.Grammar.{quote};
 ghost use Rattle.sheets.specs.declared.Place.TheVariants.{Start, Quoted};
 ghost use Rattle.sheet_reading.specs.Put.{Readable, Copies, place_for, test_for, Copied, NamePut, RowPut};
 
-use crate::judging::row_end;
-use crate::numbers::number_at;
+use crate::judging::row_of;
 use crate::{Name, Row};
 use sheets::{COMMA, QUOTE};
 
@@ -82,10 +81,5 @@ pub(crate) fn copy_row(text: &[u8], from: usize, names: &mut [u8], at: usize) ->
     ensures { RowPut text.now from names.old at names.new result }
 {
     let name = copy_name(text, from, names, at);
-    let number = number_at(text, name.end).unwrap();
-    Row {
-        end: row_end(text, number.end).unwrap(),
-        bytes: name.bytes,
-        value: number.value,
-    }
+    row_of(text, name).unwrap()
 }

@@ -24,7 +24,8 @@ fn large(text: &[u8], from: usize, value: usize) -> Run
     }
 }
 
-// The loop is left at the tenth figure, so that it need not look at each whether the number still fits.
+// The loop is left at the tenth figure, so that it need not look at each whether the number still fits. (A chain would have to carry place and value
+// side by side, to leave with both.)
 pub(crate) fn digits(text: &[u8], from: usize) -> Run
     requires { from ≤ length text.now }
     ensures { RunIs text.now from result }
@@ -67,8 +68,7 @@ fn quoted_number(text: &[u8], from: usize) -> Option<Run>
     })
 }
 
-// The number behind a comma. Inlined where a sheet is judged and where it is written, since the call would hand the Option back through memory, by
-// which reading a plain sheet took a seventh longer.
+// The number behind a comma. Inlined, as `row_of` is.
 #[inline(always)]
 pub(crate) fn number_at(text: &[u8], from: usize) -> Option<Run>
     requires { from ≤ length text.now }
