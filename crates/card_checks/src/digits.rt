@@ -89,7 +89,7 @@ impl Groups {
         self.parts[..self.count]
             .iter()
             .enumerate()
-            .fold(true, |ok, (i, part)| ok & (part.group as usize == i + 1))
+            .fold(true, |ok, (i, part)| ok & (part.group == (i + 1) as u32))
     }
 
     // Passes, until each card is the first of its group, but six at most: then the cards of a group have the same machine.
