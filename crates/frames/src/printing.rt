@@ -1,5 +1,5 @@
 // The line that is printed for an outcome.
-ghost use Rattle.std.specs.Prelude.{◌≡◌, ◌≤◌, length};
+ghost use Rattle.std.specs.Prelude.{◌≡◌, length, take};
 ghost use Rattle.protocol.specs.Frames.{digit_of, print, refusal_text, fields_text, outcome_text, line};
 
 use protocol::form::ANSWER_WORDS;
@@ -32,11 +32,10 @@ pub fn put(out: &mut [u8], v: u32)
     }
 }
 
-// `hubsheet` prints such a line too, and has more room for one. (The bytes begin as LF, so that what is put in front of the last of them ends with
+// `hubsheet` prints such a line too, and has more room for one; where there is less than a line's, its first bytes. (The bytes begin as LF, so that what is put in front of the last of them ends with
 // one: a line that is copied whole takes less time than its text and then LF.)
 pub fn refusal_line<const N: usize>(number: u32) -> Text<N>
-    requires { 5 ≤ N }
-    ensures { result ≡ line (refusal_text number) }
+    ensures { result ≡ take N (line (refusal_text number)) }
 {
     let mut bytes = [b'\n'; 5];
     put(&mut bytes[0..2], 238);

@@ -1,11 +1,13 @@
 -- `frames::calls::answer_line` is `line_call`, by what the line reads as. Assumes nothing.
 use mathlib.Core.Path.{ap, ◌∙◌}
 use Rattle.std.proofs.Common.{Some}
+use Rattle.protocol.specs.Frames.{line, refusal_text}
 use Rattle.frames.specs.Lines.{founding_line_lem, command_line, unreadable_line}
 use Rattle.frames.specs.Founding.{decoded_fits}
 use Rattle.frames.proofs.calls.answer_line.Goals as goal
 
 pub returns-in_default : goal.returns-in_default
+unfolding line refusal_text
 returns-in_default c =
     let a = c.args in
     let d = c.decode in
