@@ -1,10 +1,6 @@
 -- Do the machines differ? Cards are parted into groups, by one digit of four bits more in each pass. For every list of numbers f. Assumes nothing.
-use Rattle.std.specs.Prelude.{◌≡◌, refl, ◌≢◌, Bool, true, false, ◌&&◌, List, map, fold, take, get_or, length, set}
-use Rattle.std.specs.List.{enumerate_from}
-use Rattle.std.proofs.lemmas.List.{get_or-map, map-set, length-map, length-take, get_or-take}
-use Rattle.std.proofs.lemmas.List.FromFn.{length-enumerate_from, get_or-enumerate_from}
-use Rattle.std.proofs.Math.Nat.{zero-add}
-use Rattle.std.proofs.Math.Seq.{take-length}
+use Rattle.std.specs.Prelude.{◌≡◌, refl, ◌≢◌, Bool, true, false, ◌&&◌, List, map, get_or, length, set}
+use Rattle.std.proofs.lemmas.List.{get_or-map, map-set, length-map}
 use Rattle.card_checks.specs.declared.digits.Part.{Part}
 use Rattle.std.proofs.Math.Path.{sym, ap, subst}
 use Rattle.std.proofs.Common.{◌∙◌, ap₂, true≢false, add-one, length-set, ext_get_or, get_or-set_same, get_or-set_other}
@@ -13,14 +9,13 @@ use Rattle.std.proofs.Math.Decide.{dec_lt, ℕ_discrete}
 use Rattle.std.proofs.Math.Numerals.{unary_clauses}
 use native.Mathlib.Omega.{arith}
 use Rattle.std.proofs.Common.{nat_eq}
+use Rattle.std.specs.Int.Bits.{bit_or}
 use Rattle.std.proofs.Math.Dec.{eqb→eq, T_not}
-use Rattle.lists.specs.Basics.{when◌then◌else◌, every, distinct, table}
-use Rattle.lists.specs.Blocks.{table_of}
-use Rattle.wellformed.specs.Laws.{fold_every}
+use Rattle.lists.specs.Basics.{when◌then◌else◌, distinct, table}
 use Rattle.lists.specs.Choice.{choose, passes}
 use Rattle.lists.specs.Members.{filled}
 use Rattle.lists.specs.Tests.{→eqb}
-use Rattle.lists.specs.Merge.{merged, merged_each, each_merged, merged_test, failure_test, distinct_none}
+use Rattle.lists.specs.Merge.{merged, merged_each, each_merged, merged_more, or_test, failure_test, distinct_none}
 use Rattle.card_checks.specs.Buckets.{unmet, unmet_yes, unmet_no, distinct_more, distinct_fails}
 
 -- one more than the first place below n at which s is b, or 0
@@ -299,29 +294,29 @@ meets f n i j k l e = distinct_fails f (i + 1) n (distinct_more f i ∙ ap (λ z
 abbrev pub following : ℕ → List ℕ → ℕ
 following m groups = merged m (λ i. when nat_eq (get_or groups i 0) (i + 1) then 0 else 1)
 
--- the same, card by card: does it lead its group?
-abbrev pub leads : ℕ × Part → Bool
-leads p = nat_eq p.1.group (p.0 + 1)
+-- one card more, which gets its group
+merged_same : (f g : ℕ → ℕ) (n : ℕ) → ((i : ℕ) → i < n → f i ≡ g i) → merged n f ≡ merged n g
+unfolding merged
+merged_same f g zero h = refl
+merged_same f g (suc n) h = ap₂ bit_or (merged_same f g n (λ i l. h i (omega arith))) (h n (omega arith))
 
-pub following_parts : (parts : List Part) (n : ℕ) → n ≤ length parts → fold (λ ok p. ok && leads p) true (enumerate_from 0 (take n parts)) ≡ nat_eq (following n (names parts)) 0
-following_parts parts n l =
-    fold_every leads true (enumerate_from 0 (take n parts))
-    ∙ ap (every leads) (sym (take-length (enumerate_from 0 (take n parts))) ∙ ap (λ z. take z (enumerate_from 0 (take n parts))) size
-    ∙ sym (table_of (enumerate_from 0 (take n parts)) (0, none) at n (omega (arith, size)) at_is))
-    ∙ sym (merged_test (λ i. when nat_eq (get_or (names parts) i 0) (i + 1) then 0 else 1) leads at n
-    (λ i k. failure_test (nat_eq (get_or (names parts) i 0) (i + 1)) ∙ ap (λ z. nat_eq z (i + 1)) (sym (names_at parts i (omega arith) none))))
+pub following_more : (parts : List Part) (i : ℕ) (part : Part) → i < length parts → (lead : Bool) → lead ≡ nat_eq (following i (names parts)) 0 → (x : ℕ) → x ≡ part.group
+    → (lead && nat_eq x (i + 1)) ≡ nat_eq (following (i + 1) (names (set parts i part))) 0
+following_more parts i part l lead e x q =
+    ap₂ (λ a b. a && b)
+    (e ∙ ap (λ z. nat_eq z 0) (merged_same (λ j. fails j (get_or (names parts) j 0)) (λ j. fails j (get_or new j 0)) i
+    (λ j k. ap (fails j) (sym (ap (λ z. get_or z j 0) (names_set parts i part) ∙ get_or-set_other (names parts) i j part.group 0 (omega arith))))))
+    (ap (λ z. nat_eq z (i + 1)) (q ∙ sym here) ∙ sym (failure_test (nat_eq (get_or new i 0) (i + 1))))
+    ∙ sym (ap (λ z. nat_eq z 0) (merged_more i (λ j. fails j (get_or new j 0))) ∙ or_test (following i new) (fails i (get_or new i 0)))
   where
-    none : Part
-    none = record { left = 0; group = 0 }
+    new : List ℕ
+    new = names (set parts i part)
 
-    at : ℕ → ℕ × Part
-    at i = (i, get_or parts i none)
+    fails : ℕ → ℕ → ℕ
+    fails j y = when nat_eq y (j + 1) then 0 else 1
 
-    size : length (enumerate_from 0 (take n parts)) ≡ n
-    size = length-enumerate_from 0 (take n parts) ∙ omega (arith, length-take n parts)
-
-    at_is : (i : ℕ) → i < n → at i ≡ get_or (enumerate_from 0 (take n parts)) i (0, none)
-    at_is i k = sym (get_or-enumerate_from 0 (take n parts) i (0, none) (omega (arith, length-take n parts)) ∙ ap₂ (λ a b. (a, b)) (zero-add i) (get_or-take n parts i none k))
+    here : get_or new i 0 ≡ part.group
+    here = ap (λ z. get_or z i 0) (names_set parts i part) ∙ get_or-set_same (names parts) i part.group 0 (omega (arith, length-map parts (λ p. p.group)))
 
 all_lead : (m : ℕ) (groups : List ℕ) → following m groups ≡ 0 → (i : ℕ) → i < m → get_or groups i 0 ≡ i + 1
 all_lead m groups e i l =

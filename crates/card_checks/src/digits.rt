@@ -66,30 +66,24 @@ impl Groups {
         }
     }
 
-    // One pass.
-    fn part(&mut self)
+    // One pass. Whether each card is then the first of its group.
+    fn part(&mut self) -> bool
         requires { (j : ℕ) → j < self.old.count → get_or (names self.old.parts) j 0 ≤ most_cards }
-        ensures { (self.new.count ≡ self.old.count) × Parted self.old.count (lefts self.old.parts) (names self.old.parts) (lefts self.new.parts) (names self.new.parts) }
+        ensures { (self.new.count ≡ self.old.count) × Parted self.old.count (lefts self.old.parts) (names self.old.parts) (lefts self.new.parts) (names self.new.parts) × (result ≡ nat_eq (following self.old.count (names self.new.parts)) 0) }
     {
         let mut slots = [0u16; SLOTS];
+        let mut all_lead = true;
         for i in 0..self.count {
             let part = self.parts[i];
             let slot = (part.group * 16 + part.left % 16) as usize;
+            let group = u32::from(first_come(&mut slots, slot, i));
+            all_lead &= group == (i + 1) as u32;
             self.parts[i] = Part {
                 left: part.left / 16,
-                group: u32::from(first_come(&mut slots, slot, i)),
+                group,
             };
         }
-    }
-
-    // Whether each card is the first of its group.
-    fn all_lead(&self) -> bool
-        ensures { result ≡ nat_eq (following self.now.count (names self.now.parts)) 0 }
-    {
-        self.parts[..self.count]
-            .iter()
-            .enumerate()
-            .fold(true, |ok, (i, part)| ok & (part.group == (i + 1) as u32))
+        all_lead
     }
 
     // Passes, until each card is the first of its group, but six at most: then the cards of a group have the same machine.
@@ -98,8 +92,7 @@ impl Groups {
         ensures { (f : ℕ → ℕ) → Grouped f self.old.count 6 (lefts self.old.parts) (names self.old.parts) → result ≡ distinct (table self.old.count f) }
     {
         for _ in 0..MOST_PASSES {
-            self.part();
-            if self.all_lead() {
+            if self.part() {
                 return true;
             }
         }
