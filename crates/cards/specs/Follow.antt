@@ -51,6 +51,9 @@ module _ (k : List ℕ) (n : Neat k) (h x : ℕ) (l : h < most_nodes) where
   unfolding read_book
   marked_marks = ap marks_in marked_is ∙ marks_read (with_mark b h x) t marked_fits
 
+  pub marked_count : cards_in (set k (1 + h) x) ≡ cards_in k
+  marked_count = ap cards_in marked_is ∙ count_book (with_mark b h x) t marked_fits ∙ count_of_book k
+
   pub marked_cards : (read_book (set k (1 + h) x)).cards ≡ (read_book k).cards
   marked_cards = ap (λ z. z.cards) (ap read_book marked_is ∙ read_book_lem (with_mark b h x) t marked_fits)
 

@@ -1,12 +1,12 @@
 -- What digits are worth at most, the number that digits make one by one, and a test of all bytes. Assumes nothing.
-use Rattle.std.specs.Prelude.{◌≡◌, Bool, List, [], ◌∷◌, ◌++◌, ℕ, suc, ◌+◌, ◌-◌, ◌*◌, ◌^◌, ◌<◌, ◌≤◌, ◌&&◌, nat_lt, length}
+use Rattle.std.specs.Prelude.{◌≡◌, Bool, List, [], ◌∷◌, ◌++◌, ℕ, suc, ◌+◌, ◌-◌, ◌*◌, ◌^◌, ◌<◌, ◌≤◌, ◌&&◌, nat_lt, length, take, drop}
 use Rattle.std.proofs.Math.Path.{refl, ap, sym, ◌∙◌}
-use Rattle.std.proofs.Common.{add-one, arith, ltb→lt}
+use Rattle.std.proofs.Common.{add-one, arith, ltb→lt, subst, length-take}
 use Rattle.std.proofs.Math.Nat.{pow-suc, pow-le-pow_right}
 use Rattle.std.specs.List.{list_all}
 use Rattle.lists.specs.Choice.{choose}
 use Rattle.lists.specs.Basics.{every}
-use Rattle.protocol.specs.Frames.{digit_value, number_after, number}
+use Rattle.protocol.specs.Frames.{digit_value, number_after, number, read2}
 
 pub digit_bound : (b : ℕ) → digit_value b < 16
 unfolding digit_value
@@ -25,6 +25,29 @@ one_more v b i h k =
     let q : i ≤ 7 = omega arith in
     let p : 16 ^ i ≤ 16 ^ 7 = pow-le-pow_right z q in
     (rw (add-one, e) (omega arith), omega arith)
+
+-- so many digits are less than 16 to that power: two less than 256, four less than 65536
+bound_after : (v i : ℕ) (digits : List ℕ) → v < 16 ^ i → number_after v digits < 16 ^ (i + length digits)
+bound_after v i [] h = let e : i ≡ i + 0 = omega arith in subst (λ n. v < 16 ^ n) e h
+bound_after v i (d ∷ digits) h =
+    let b = digit_bound d in
+    let p : 16 ^ suc i ≡ 16 ^ i * 16 = pow-suc 16 i in
+    let e : suc i + length digits ≡ i + suc (length digits) = omega arith in
+    subst (λ n. number_after (v * 16 + digit_value d) digits < 16 ^ n) e (bound_after (v * 16 + digit_value d) (suc i) digits (omega arith))
+
+pub number_bound : (digits : List ℕ) → number digits < 16 ^ length digits
+number_bound digits =
+    let e : 0 + length digits ≡ length digits = omega arith in
+    subst (λ n. number digits < 16 ^ n) e (bound_after 0 0 digits (omega arith))
+
+pub read2_bound : (l : List ℕ) (at : ℕ) → read2 l at < 256
+read2_bound l at =
+    let b = number_bound (take 2 (drop at l)) in
+    let n = length-take 2 (drop at l) in
+    let k : length (take 2 (drop at l)) ≤ 2 = omega arith in
+    let z : 0 < 16 = omega arith in
+    let p : 16 ^ length (take 2 (drop at l)) ≤ 16 ^ 2 = pow-le-pow_right z k in
+    omega arith
 
 pub every_is : (f : ℕ → Bool) (l : List ℕ) → every f l ≡ list_all f l
 unfolding every

@@ -54,16 +54,16 @@ unfolding eights
 length_eights [] = refl
 length_eights (v ∷ l) = let e = length-append (print8 v) (eights l) in let f = length_print8 v in let g = length_eights l in omega arith
 
--- eight digits more
-pub eights_put : (t l : List ℕ) (i : ℕ) → i < length l → length l ≤ 64 → t ≡ print2 240 ++ eights (take i l) → take 516 (t ++ print8 (get_or l i 0)) ≡ print2 240 ++ eights (take (i + 1) l)
-eights_put t l i h k e =
+-- eight digits more, where n bytes are kept
+pub eights_put : (n : ℕ) (t l : List ℕ) (i : ℕ) → i < length l → 2 + 8 * length l ≤ n → t ≡ print2 240 ++ eights (take i l) → take n (t ++ print8 (get_or l i 0)) ≡ print2 240 ++ eights (take (i + 1) l)
+eights_put n t l i h k e =
     let a = length_eights (take i l) in
     let b = length-take-le i l (omega arith) in
     let c = length-append (print2 240) (eights (take i l)) in
     let d = length_print2 240 in
     let f = length_print8 (get_or l i 0) in
     let g = ap length e in
-    all_fits 516 t (print8 (get_or l i 0)) (omega arith)
+    all_fits n t (print8 (get_or l i 0)) (omega arith)
     ∙ ap (λ z. z ++ print8 (get_or l i 0)) e
     ∙ append_assoc (print2 240) (eights (take i l)) (print8 (get_or l i 0))
     ∙ ap (λ z. print2 240 ++ z) (sym (eights_more l i h))
@@ -77,15 +77,18 @@ founding_length l =
     let d = length_print2 240 in
     omega arith
 
-pub founding_put : (t l : List ℕ) (i : ℕ) → i ≡ length l → length l ≤ 64 → t ≡ print2 240 ++ eights (take i l) → take 516 (t ++ (10 ∷ [])) ≡ founding_line l
+pub founding_put : (n : ℕ) (t l : List ℕ) (i : ℕ) → i ≡ length l → 2 + 8 * length l + 1 ≤ n → t ≡ print2 240 ++ eights (take i l) → take n (t ++ (10 ∷ [])) ≡ founding_line l
 unfolding founding_line
-founding_put t l i e h f =
-    let g : t ≡ print2 240 ++ eights l = f ∙ ap (λ n. print2 240 ++ eights (take n l)) e ∙ ap (λ z. print2 240 ++ eights z) (take-length l) in
+founding_put n t l i e h f =
+    let g : t ≡ print2 240 ++ eights l = f ∙ ap (λ k. print2 240 ++ eights (take k l)) e ∙ ap (λ z. print2 240 ++ eights z) (take-length l) in
     let a = length_eights l in
     let b = length-append (print2 240) (eights l) in
     let c = length_print2 240 in
     let d = ap length g in
-    all_fits 516 t (10 ∷ []) (omega arith) ∙ ap (λ z. z ++ (10 ∷ [])) g
+    all_fits n t (10 ∷ []) (omega arith) ∙ ap (λ z. z ++ (10 ∷ [])) g
+
+pub founding_small : (l : List ℕ) → length l ≤ 64 → length (founding_line l) ≤ 516
+founding_small l h = let b = founding_length l in omega arith
 
 -- The same of what is held at the end.
 unfoldable pub rows_line : Bool → ℕ → List ℕ → List ℕ

@@ -1,5 +1,5 @@
 -- The questions of each call, in the words' terms: which facts lead to which refusal, and to the call's result. Assumes nothing.
-use Rattle.std.specs.Prelude.{◌≡◌, true, false, List, [], ℕ, ◌≤◌, ◌<◌, take, drop, Option, None, Some, MatchOption}
+use Rattle.std.specs.Prelude.{◌≡◌, true, false, List, [], ℕ, ◌≤◌, ◌<◌, length, take, drop, Option, None, Some, MatchOption}
 use Rattle.std.proofs.Common.{sym, ◌∙◌}
 use Rattle.std.proofs.Math.Path.{ap}
 use Rattle.std.specs.Option.{ok_or}
@@ -9,14 +9,15 @@ use borrow.Author.Tests.{lt-ltb, le-ltb}
 use Rattle.lists.specs.Choice.{on_yes, on_no}
 use Rattle.lists.specs.Basics.{first}
 use Rattle.std.specs.Prelude.{Err, Ok}
-use Rattle.protocol.specs.declared.refusal.Refusal.TheVariants.{NoHolder, NoHub, NotInRing}
-use Rattle.protocol.specs.Record.{row_size, row_start, count_in, row, identifier, read}
+use Rattle.protocol.specs.declared.refusal.Refusal.TheVariants.{NoHolder, NoHub, NotInRing, NotWellFormed, RecordShort}
+use Rattle.protocol.specs.Record.{record_size, row_size, row_start, count_in, row, identifier, read}
+use Rattle.protocol.specs.WellFormed.{well_formed}
 use Rattle.protocol.specs.Routing.{in_ring, responsible, covers}
 use Rattle.protocol.specs.Membership.{holds}
 use Rattle.protocol.specs.Calls.{lowest_holder, owner_call, row_call, roll, unrolled, roll_call}
 use Rattle.layout.specs.Words.{count_of_read}
 use Rattle.layout.specs.Form.{Valid}
-use Rattle.layout.specs.Questions.{record_rest}
+use Rattle.layout.specs.Questions.{record_1, record_2, record_rest}
 use Rattle.queries.specs.Rolls.{rolled_from, from_start}
 
 module _ (w : List ℕ) where
@@ -37,6 +38,14 @@ module _ (w : List ℕ) where
     pub lowest_read : lowest_holder (read w) v ≡ first (λ node. holds (read w) node v) n
     lowest_read = ap (first (λ node. holds (read w) node v)) (count_of_read w)
 
+    pub owner_1 : length w < record_size → owner_call w v ≡ Err RecordShort
+    unfolding owner_call
+    owner_1 l = record_1 w Err _ l
+
+    pub owner_2 : record_size ≤ length w → well_formed w ≡ false → owner_call w v ≡ Err NotWellFormed
+    unfolding owner_call
+    owner_2 l e = record_2 w Err _ l e
+
     -- k is the lowest holder
     module _ (ok : Valid w) (k : ℕ) (e : k ≡ lowest_holder (read w) v) where
       pub owner_15 : n ≤ k → owner_call w v ≡ Err NoHolder
@@ -53,6 +62,14 @@ module _ (w : List ℕ) where
 
   -- the hub row
   module _ (node : ℕ) where
+    pub row_1 : length w < record_size → row_call w node ≡ []
+    unfolding row_call
+    row_1 l = record_1 w (λ k. []) _ l
+
+    pub row_2 : record_size ≤ length w → well_formed w ≡ false → row_call w node ≡ []
+    unfolding row_call
+    row_2 l e = record_2 w (λ k. []) _ l e
+
     pub row_4 : Valid w → n ≤ node → row_call w node ≡ []
     unfolding row_call
     row_4 ok l = record_rest w (λ k. []) _ ok.long ok.formed ∙ on_no _ _ _ (le-ltb node n l)
@@ -63,6 +80,14 @@ module _ (w : List ℕ) where
 
   -- the roll call
   module _ (node : ℕ) (out : List ℕ) where
+    pub roll_1 : length w < record_size → roll_call w node out ≡ unrolled out RecordShort
+    unfolding roll_call
+    roll_1 l = record_1 w (unrolled out) _ l
+
+    pub roll_2 : record_size ≤ length w → well_formed w ≡ false → roll_call w node out ≡ unrolled out NotWellFormed
+    unfolding roll_call
+    roll_2 l e = record_2 w (unrolled out) _ l e
+
     module _ (ok : Valid w) where
       pub roll_4 : n ≤ node → roll_call w node out ≡ unrolled out NoHub
       unfolding roll_call

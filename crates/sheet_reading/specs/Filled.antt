@@ -226,7 +226,7 @@ pub record Filled (form : List ℕ → List ℕ) (t ids₀ names₀ ids names : 
   pub ids_are : ids ≡ laid ids₀ (form numbers)
   pub names_are : names ≡ laid names₀ said
 
-module _ (form : List ℕ → List ℕ) (each : ℕ) (laws : Forms form each) (t ids₀ names₀ : List ℕ) where
+module _ (form : List ℕ → List ℕ) (none : form [] ≡ []) (join : (x y : List ℕ) → form (x ++ y) ≡ form x ++ form y) (t ids₀ names₀ : List ℕ) where
   pub filled_none : Filled form t ids₀ names₀ ids₀ names₀ 0 0 0
   unfolding reading onward fresh
   filled_none = record {
@@ -237,7 +237,7 @@ module _ (form : List ℕ → List ℕ) (each : ℕ) (laws : Forms form each) (t
     within = omega arith;
     here = refl;
     count = refl;
-    ids_are = laid_none ids₀ ∙ ap (laid ids₀) (sym laws.none);
+    ids_are = laid_none ids₀ ∙ ap (laid ids₀) (sym none);
     names_are = laid_none names₀;
   }
 
@@ -279,11 +279,11 @@ module _ (form : List ℕ → List ℕ) (each : ℕ) (laws : Forms form each) (t
       pub value_there : IsSome p.value
       value_there = ap (λ z. is_some z) r.kept ∙ word_some r.number ∙ number_word
 
-      -- and room
-      pub row_room : each * (row + 1) ≤ length ids₀
-      row_room =
+      -- and room, where each number takes as many places
+      pub row_room : (each : ℕ) → ((x : List ℕ) → length (form x) ≡ each * length x) → each * (row + 1) ≤ length ids₀
+      row_room each size =
           let r = mul-le-mul_left each row_there in
-          let s = laws.size room.i in
+          let s = size room.i in
           let h = room.ids_fit in
           omega arith
 
@@ -291,9 +291,8 @@ module _ (form : List ℕ → List ℕ) (each : ℕ) (laws : Forms form each) (t
       value_is v e = word_is r.number v (sym r.kept ∙ e)
 
       -- the number is written behind those before
-      pub filled_row : (v : ℕ) → p.value ≡ Some v → (ids' : List ℕ) → ids' ≡ splice ids (each * row) (form (v ∷ [])) → Filled form t ids₀ names₀ ids' names' (row + 1) (at + p.bytes) p.end
-      filled_row v q ids' e =
-          let here : each * row ≡ length (form f.numbers) = ap (λ x. each * x) f.count ∙ sym (laws.size f.numbers) in
+      pub filled_row : (pos : ℕ) → pos ≡ length (form f.numbers) → (v : ℕ) → p.value ≡ Some v → (ids' : List ℕ) → ids' ≡ splice ids pos (form (v ∷ [])) → Filled form t ids₀ names₀ ids' names' (row + 1) (at + p.bytes) p.end
+      filled_row pos here v q ids' e =
           let b = r.size in
           let h = f.here in
           let l = length-append f.said (r.name ++ (0 ∷ [])) in
@@ -309,9 +308,9 @@ module _ (form : List ℕ → List ℕ) (each : ℕ) (laws : Forms form each) (t
             here = omega arith;
             count = omega arith;
             ids_are =
-                e ∙ ap₂ (λ x z. splice x (each * row) (form (z ∷ []))) f.ids_are (value_is v q)
-                ∙ laid_more ids₀ (form f.numbers) (form (r.number ∷ [])) (each * row) here
-                ∙ ap (laid ids₀) (sym (laws.join f.numbers (r.number ∷ [])));
+                e ∙ ap₂ (λ x z. splice x pos (form (z ∷ []))) f.ids_are (value_is v q)
+                ∙ laid_more ids₀ (form f.numbers) (form (r.number ∷ [])) pos here
+                ∙ ap (laid ids₀) (sym (join f.numbers (r.number ∷ [])));
             names_are = r.written ∙ ap (λ x. splice x at (r.name ++ (0 ∷ []))) f.names_are ∙ laid_more names₀ f.said (r.name ++ (0 ∷ [])) at f.here;
           }
 

@@ -237,11 +237,23 @@ first_take (b ∷ l) = go (nat_eq b 0) (first_take l)
     go true e = refl
     go false e = ap (λ k. b ∷ k) e
 
+pub first_length : (l : List ℕ) → length (first_name l) ≤ length l
+unfolding first_name when◌then◌else◌
+first_length [] = omega arith
+first_length (b ∷ l) = go (nat_eq b 0) (first_length l)
+  where
+    go : (t : Bool) → length (first_name l) ≤ length l → length (when t then [] else b ∷ first_name l) ≤ suc (length l)
+    go true e = omega arith
+    go false e = omega arith
+
 -- what a scan says of the name
 module _ (names : List ℕ) (s : Scan) (e : s ≡ scanned (first_name names)) where
   pub scan_length : s.length ≡ length (first_name names)
   unfolding scanned
   scan_length = ap (λ s. s.length) e
+
+  pub scan_within : s.length ≤ length names
+  scan_within = let x = scan_length in let y = first_length names in omega arith
 
   pub scan_quotes : s.quotes ≡ quotes (first_name names)
   unfolding scanned

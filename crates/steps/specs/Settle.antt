@@ -3,12 +3,13 @@ use Rattle.std.specs.Prelude.{◌≡◌, refl, List, ◌++◌, ℕ, ◌+◌, ◌
 use Rattle.std.proofs.Common.{sym, ◌∙◌, ap, arith, length-append, length-take, length-drop, length-set}
 use Rattle.protocol.specs.declared.Row.{Row}
 use Rattle.protocol.specs.declared.Message.{Message}
-use Rattle.std.specs.Prelude.{Ok}
+use Rattle.std.specs.Prelude.{Ok, Err}
+use Rattle.protocol.specs.declared.refusal.Refusal.{Refusal}
 use Rattle.protocol.specs.declared.Decision.{Decision}
 use Rattle.protocol.specs.declared.Decision.TheVariants.{Reply, Send}
 use Rattle.protocol.specs.Record.{most_nodes, most_messages, record_size, State, count, count_in, messages_in, asked_in, words, read, with_row, sent, without_message, ticketed}
 use Rattle.protocol.specs.Step.{conclude}
-use Rattle.protocol.specs.Calls.{Called, written}
+use Rattle.protocol.specs.Calls.{Called, turned_down, written}
 use Rattle.layout.specs.Words.{count_of_read, messages_of_read}
 use Rattle.layout.specs.Form.{Valid, valid_words}
 use Rattle.layout.specs.Edits.{row_put, pushed, removed, put_row_is, push_is, remove_is, ticket_is}
@@ -43,6 +44,11 @@ settled_is w v t (Send h u a) lt lm =
     (ap (λ z. pushed (row_put z t h) (messages_in w) u) (valid_words w v)
     ∙ ap (λ z. pushed (row_put (words (read w) ++ drop record_size w) t h) z u) (sym (messages_of_read w))
     ∙ row_sent (read w) (drop record_size w) (omega (arith, v.nodes, count_of_read w)) t h u (omega (arith, count_of_read w)) (omega (arith, messages_of_read w)))
+
+-- a refusal leaves the words as they were, whether or not a message would have been taken out
+pub settled_refused : (w : List ℕ) (s : State) (t : ℕ) (k : Refusal) → turned_down w k ≡ written w (conclude s t (Err k))
+unfolding conclude written
+settled_refused w s t k = refl
 
 -- message j taken out of the words
 without : (w : List ℕ) → Valid w → (j : ℕ) → j < messages_in w → removed w (messages_in w) j ≡ words (without_message (read w) j) ++ drop record_size w

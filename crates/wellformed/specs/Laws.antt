@@ -55,7 +55,7 @@ module _ (l : List ℕ) where
   abbrev at : ℕ → ℕ
   at i = get_or l i 0
 
-  before : (i : ℕ) → i ≤ length l → table i at ≡ take i l
+  pub before : (i : ℕ) → i ≤ length l → table i at ≡ take i l
   before i h = table_of l 0 at i h (λ j k. refl)
 
   pub one_more : (i : ℕ) → i < length l → (r : Bool) → r ≡ fold (λ ok y. ok && not (nat_eq y (get_or l i 0))) true (take i l) → (distinct (take i l) && r) ≡ distinct (take (i + 1) l)
@@ -194,14 +194,14 @@ message_law n asked m a b ea eb = or_test a b ∙ ap₂ (λ x y. x && y) ea eb �
 unfoldable pub nodes_ok : State → Bool
 nodes_ok s = distinct (identifiers s) && every (row_ok (count s)) s.rows
 
-pub nodes_law : (w : List ℕ) (n : ℕ) → n ≡ count_in w → (ids : List ℕ) → n ≤ length ids → ((i : ℕ) → i < n → get_or ids i 0 ≡ get_or w (row_start i) 0) → (d r : Bool)
-    → d ≡ distinct (take n ids)
+pub nodes_law : (w : List ℕ) (n : ℕ) → n ≡ count_in w → (ids : List ℕ) → ((i : ℕ) → i < n → get_or ids i 0 ≡ get_or w (row_start i) 0) → (d r : Bool)
+    → d ≡ distinct (table n (λ i. get_or ids i 0))
     → r ≡ every (row_ok n) (table n (λ i. row_from w (row_start i)))
     → (d && r) ≡ nodes_ok (read w)
 unfolding nodes_ok read
-nodes_law w n en ids h e d r ed er =
+nodes_law w n en ids e d r ed er =
     ap₂ (λ x y. x && y)
-    (ed ∙ ap distinct (sym (before ids n h) ∙ table_cong _ (λ i. get_or w (row_start i) 0) n e ∙ sym (map_table (λ h. h.identifier) (λ i. row_from w (row_start i)) n)) ∙ ap (λ k. distinct (map (λ h. h.identifier) (table k (λ i. row_from w (row_start i))))) en)
+    (ed ∙ ap distinct (table_cong _ (λ i. get_or w (row_start i) 0) n e ∙ sym (map_table (λ h. h.identifier) (λ i. row_from w (row_start i)) n)) ∙ ap (λ k. distinct (map (λ h. h.identifier) (table k (λ i. row_from w (row_start i))))) en)
     (er ∙ ap (λ k. every (row_ok k) (table k (λ i. row_from w (row_start i)))) en ∙ ap (λ k. every (row_ok k) (table (count_in w) (λ i. row_from w (row_start i)))) (sym (count_of_read w)))
 
 -- The whole: a part that fails, and the last where the others pass.

@@ -12,9 +12,9 @@ loop-identifier-init c = rw (c.push.ensures.kept, c.new-line.ensures) refl
 pub loop-identifier-preserved : goal.loop-identifier-preserved
 loop-identifier-preserved c =
     let l = c.loop-identifier in
-    rw (c.push-in-loop-identifier.ensures.kept, c.put.ensures) (eights_put l.line c.args.identifiers.now l.identifier-index (omega arith) (omega arith) l.invariant)
+    rw (c.push-in-loop-identifier.ensures.kept, c.put.ensures) (eights_put 516 l.line c.args.identifiers.now l.identifier-index (omega arith) (omega arith) l.invariant)
 
 pub returns : goal.returns
 returns c =
     let l = c.loop-identifier in
-    rw c.push-2.ensures.kept (founding_put l.line c.args.identifiers.now l.identifier-index (omega arith) (omega arith) l.invariant)
+    rw c.push-2.ensures.kept (founding_put 516 l.line c.args.identifiers.now l.identifier-index (omega arith) (omega arith) l.invariant)

@@ -1,6 +1,6 @@
 -- `first_holder`: the first node for which the search finds that it holds the number. Assumes nothing.
 use borrow.Author.Rules.{rules}
-use mathlib.Core.Path.{◌≡◌, sym, ◌∙◌}
+use mathlib.Core.Path.{◌≡◌}
 use mathlib.Core.Bool.{Bool, true, false}
 use Prim.Native.Nat.{ℕ}
 use Rattle.std.proofs.lemmas.Iterator.{first_from_Range}
