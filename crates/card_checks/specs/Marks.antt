@@ -7,7 +7,10 @@ use Rattle.std.proofs.Math.Decide.{dec_lt, ℕ_discrete}
 use Rattle.std.specs.List.{enumerate_from}
 use Rattle.std.proofs.Math.Nat.{zero-add}
 use Rattle.std.proofs.Common.{eq-eqb, ne_eqb}
-use Rattle.lists.specs.Basics.{Mem, every}
+use Rattle.lists.specs.Basics.{when◌then◌else◌, Mem, every}
+use Rattle.lists.specs.Blocks.{table_of}
+use Rattle.lists.specs.Merge.{merged, merged_test, failure_test}
+use Rattle.std.proofs.Math.Seq.{take-length}
 use Rattle.lists.specs.Members.{mem_at, place}
 use Rattle.lists.specs.Tests.{says_and, says_as, says_lt, says_le, says_eq, says_not, says_same, says_every, T_true, true_T}
 use Rattle.wellformed.specs.Laws.{fold_every}
@@ -120,6 +123,13 @@ later_marks k n h l =
     ∙ ap (take (most_nodes - n)) (sym (drop-drop n 1 k))
     ∙ sym (drop_take n (most_nodes - n) (drop 1 k) (simp length-drop (omega arith)))
     ∙ ap (λ z. drop n (take z (drop 1 k))) q
+
+-- merged failures of a list's elements
+pub merged_every : (q : ℕ → Bool) (l : List ℕ) (r : ℕ) → r ≡ merged (length l) (λ i. when q (get_or l i 0) then 0 else 1) → nat_eq r 0 ≡ every q l
+merged_every q l r e =
+    ap (λ z. nat_eq z 0) e
+    ∙ merged_test _ q (λ i. get_or l i 0) (length l) (λ i h. failure_test (q (get_or l i 0)))
+    ∙ ap (every q) (table_of l 0 (λ i. get_or l i 0) (length l) (omega arith) (λ i h. refl) ∙ take-length l)
 
 pub marks_code : (k : List ℕ) (n : ℕ) → n ≤ most_nodes → book_size ≤ length k → (b r z : Bool)
     → b ≡ fold (λ ok x. ok && nat_lt x 2) true (marks_in k)

@@ -1,6 +1,8 @@
 -- The questions of the calls in the words' terms, and what the step without cards leaves for the cards. Assumes nothing.
-use Rattle.std.specs.Prelude.{◌≡◌, List, ◌++◌, ℕ, ◌≤◌, length, take, drop}
-use Rattle.std.proofs.Common.{sym, ◌∙◌, ap, subst, arith, length-append, length-drop, take-append-drop, drop_at}
+use Rattle.std.specs.Prelude.{◌≡◌, List, ◌++◌, ℕ, ◌+◌, ◌-◌, ◌≤◌, ◌<◌, length, get_or, take, drop}
+use Rattle.std.proofs.Common.{sym, ◌∙◌, ap, subst, arith, length-append, length-drop, take-append-drop, drop_at, ext_get_or, get_or-take, get_or-drop, get_or-append-add, length-take-le}
+use Rattle.std.proofs.Math.Decide.{dec_lt}
+use Rattle.std.proofs.Math.ListN.{get_or-append}
 use Rattle.protocol.specs.declared.Answer.{Answer}
 use Rattle.protocol.specs.declared.refusal.Refusal.{Refusal}
 use Rattle.protocol.specs.Outcomes.{Outcome}
@@ -59,6 +61,24 @@ pub after_law : (w k slice : List ℕ) (operation x y : ℕ) (o : Outcome) (z : 
 unfolding step_call
 after_law w k slice operation x y o z v e q =
     ap (λ c. after_call w k c.slice c.outcome) (record_rest w (turned_down w) (written w (step (read w) operation x y)) v.long v.formed ∙ e) ∙ q
+
+-- copies of words
+pub saved_all : (w saved : List ℕ) → record_size ≤ length w → length saved ≡ record_size → ((j : ℕ) → j < record_size → get_or saved j 0 ≡ get_or w j 0) → saved ≡ take record_size w
+saved_all w saved l e f =
+    ext_get_or 0 saved (take record_size w) (e ∙ sym (length-take-le record_size w l)) (λ i u. f i (omega arith) ∙ sym (get_or-take record_size w i 0 (omega arith)))
+
+pub restored_all : (w saved now : List ℕ) → length saved ≤ length w → length now ≡ length w → ((j : ℕ) → j < length saved → get_or now j 0 ≡ get_or saved j 0)
+    → ((j : ℕ) → length saved ≤ j → get_or now j 0 ≡ get_or w j 0) → now ≡ saved ++ drop (length saved) w
+restored_all w saved now l e f g =
+    ext_get_or 0 now (saved ++ drop (length saved) w) (omega (arith, e, length-append saved (drop (length saved) w), length-drop (length saved) w)) (λ i u. go i (dec_lt i (length saved)))
+  where
+    go : (i : ℕ) → Dec (i < length saved) → get_or now i 0 ≡ get_or (saved ++ drop (length saved) w) i 0
+    go i (yes k) = f i k ∙ sym (get_or-append saved (drop (length saved) w) 0 i k)
+    go i (no k) =
+        let q : length saved + (i - length saved) ≡ i = omega arith in
+        g i (omega arith)
+        ∙ ap (λ z. get_or w z 0) (sym q) ∙ sym (get_or-drop (length saved) w (i - length saved) 0)
+        ∙ sym (get_or-append-add saved (drop (length saved) w) (i - length saved) 0) ∙ ap (λ z. get_or (saved ++ drop (length saved) w) z 0) q
 
 -- a refused step has written nothing
 pub refused_kept : (w slice : List ℕ) (o : Outcome) (number : Refusal) (r : Result) → written w r ≡ record { outcome = o; slice = slice } → o ≡ Err number → slice ≡ w

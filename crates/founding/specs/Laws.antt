@@ -1,12 +1,12 @@
 -- What the writing loops leave, that it is a fresh ring, and what questions 13 and 14 say. Assumes nothing.
-use Rattle.std.specs.Prelude.{◌≡◌, refl, true, ◌&&◌, List, [], ◌∷◌, ◌++◌, map, ℕ, suc, ◌+◌, ◌-◌, ◌*◌, ◌≤◌, ◌<◌, nat_le, length, take, drop, get_or, set, replicate}
+use Rattle.std.specs.Prelude.{◌≡◌, refl, true, ◌&&◌, List, [], ◌∷◌, ◌++◌, map, ℕ, suc, ◌+◌, ◌-◌, ◌*◌, ◌≤◌, ◌<◌, nat_le, nat_eq, length, take, drop, get_or, set, replicate}
 use Rattle.std.proofs.Common.{ap, sym, ◌∙◌, append_assoc, append-nil, add-one, arith, length-append, take-append-drop, drop-cons, drop-drop, take-suc, length-take-le}
 use Rattle.std.proofs.lemmas.List.{map-append, length-replicate, length-map, replicate-append-replicate, set_at}
-use Rattle.std.proofs.Math.Seq.{append_snoc}
-use Rattle.lists.specs.Basics.{flat}
+use Rattle.std.proofs.Math.Seq.{append_snoc, take-length}
+use Rattle.lists.specs.Basics.{distinct, table, flat}
 use Rattle.lists.specs.Tests.{true_T, says_and, says_le}
 use Rattle.lists.specs.Splice.{splice, splice_at, drop_pad}
-use Rattle.lists.specs.Blocks.{flat_append, length_flat}
+use Rattle.lists.specs.Blocks.{table_of, flat_append, length_flat}
 use Rattle.protocol.specs.Record.{form, most_nodes, row_size, row_start, record_size, row_words, unused_row_words, unused_message_words, State, words, outside}
 use Rattle.protocol.specs.Fresh.{alone, fresh}
 use Rattle.layout.specs.Words.{row_size_lem}
@@ -95,3 +95,7 @@ fresh_is ids w f l h =
 -- Question 13, of n identifiers.
 pub some_few : (n : ℕ) → (nat_le 1 n && nat_le n most_nodes) ≡ true → (1 ≤ n) × (n ≤ most_nodes)
 some_few n e = (says_and (says_le 1 n) (says_le n most_nodes)).to (true_T (nat_le 1 n && nat_le n most_nodes) e)
+
+-- Question 14: what is merged is 0 where all of them differ.
+pub differ : (ids : List ℕ) (r : ℕ) → nat_eq r 0 ≡ distinct (table (length ids) (λ i. get_or ids i 0)) → nat_eq r 0 ≡ distinct ids
+differ ids r e = e ∙ ap distinct (table_of ids 0 (λ i. get_or ids i 0) (length ids) (omega arith) (λ i h. refl) ∙ take-length ids)

@@ -1,8 +1,9 @@
 -- What digits are worth at most, the number that digits make one by one, and a test of all bytes. Assumes nothing.
-use Rattle.std.specs.Prelude.{◌≡◌, Bool, List, [], ◌∷◌, ◌++◌, ℕ, suc, ◌+◌, ◌-◌, ◌*◌, ◌^◌, ◌<◌, ◌≤◌, ◌&&◌, nat_lt, length, take, drop}
+use Rattle.std.specs.Prelude.{◌≡◌, Bool, true, false, List, [], ◌∷◌, ◌++◌, ℕ, suc, ◌+◌, ◌-◌, ◌*◌, ◌^◌, ◌<◌, ◌≤◌, ◌&&◌, nat_lt, length, take, drop, get_or}
 use Rattle.std.proofs.Math.Path.{refl, ap, sym, ◌∙◌}
 use Rattle.std.proofs.Common.{add-one, arith, ltb→lt, subst, length-take}
 use Rattle.std.proofs.Math.Nat.{pow-suc, pow-le-pow_right}
+use Rattle.std.proofs.Math.Seq.{drop-cons}
 use Rattle.std.specs.List.{list_all}
 use Rattle.lists.specs.Choice.{choose}
 use Rattle.lists.specs.Basics.{every}
@@ -48,6 +49,16 @@ read2_bound l at =
     let z : 0 < 16 = omega arith in
     let p : 16 ^ length (take 2 (drop at l)) ≤ 16 ^ 2 = pow-le-pow_right z k in
     omega arith
+
+-- The byte at i decides, or leaves it to those after it.
+module _ (f : ℕ → Bool) (l : List ℕ) (i : ℕ) (h : i < length l) where
+  pub every_stops : f (get_or l i 0) ≡ false → every f (drop i l) ≡ false
+  unfolding every
+  every_stops e = rw (drop-cons l i 0 h, e)
+
+  pub every_goes_on : f (get_or l i 0) ≡ true → every f (drop i l) ≡ every f (drop (i + 1) l)
+  unfolding every
+  every_goes_on e = rw (add-one, drop-cons l i 0 h, e)
 
 pub every_is : (f : ℕ → Bool) (l : List ℕ) → every f l ≡ list_all f l
 unfolding every

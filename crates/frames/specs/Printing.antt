@@ -1,8 +1,9 @@
 -- The last digits of a number, put down from the last to the first. Assumes nothing.
-use Rattle.std.specs.Prelude.{◌≡◌, refl, List, [], ◌∷◌, ◌++◌, ℕ, zero, suc, ◌/◌, ◌^◌, ◌<◌, ◌≤◌, ◌-◌, length, set, drop}
-use Rattle.std.proofs.Common.{ap, sym, ◌∙◌, arith, length-append}
+use Rattle.std.specs.Prelude.{◌≡◌, refl, List, [], ◌∷◌, ◌++◌, ℕ, zero, suc, ◌+◌, ◌/◌, ◌^◌, ◌<◌, ◌≤◌, ◌-◌, length, set, drop}
+use Rattle.std.proofs.Common.{ap, sym, ◌∙◌, add-one, arith, length-append}
+use Rattle.std.proofs.lemmas.List.Edits.{sets}
 use Rattle.std.proofs.Math.Nat.{pow-suc, pow-succ', div-div-eq-div-mul}
-use Rattle.protocol.specs.Frames.{digit_of, print}
+use Rattle.protocol.specs.Frames.{digit_of, print, print2, print4, print8}
 
 -- the same number, divided once more
 pub divided : (v k : ℕ) → v / 16 ^ k / 16 ≡ v / 16 ^ suc k
@@ -29,6 +30,22 @@ pub print_eight : (v : ℕ) → print 8 v ≡ print 4 (v / 65536) ++ print 4 v
 print_eight v =
     let e : v / 16 / 16 / 16 / 16 ≡ v / 65536 = omega arith in
     ap (λ z. print 4 z ++ print 4 v) e
+
+-- digits put one run after another
+sets_more : (w vs us : List ℕ) (at : ℕ) → sets (sets w at vs) (at + length vs) us ≡ sets w at (vs ++ us)
+sets_more w [] us at = let e : at + 0 ≡ at = omega arith in ap (λ k. sets w k us) e
+sets_more w (v ∷ vs) us at =
+    let e : at + suc (length vs) ≡ suc at + length vs = omega arith in
+    ap (λ k. sets (sets (set w at v) (suc at) vs) k us) e ∙ sets_more (set w at v) vs us (suc at)
+
+pub put_two : (w : List ℕ) (at a b : ℕ) → set (set w at a) (at + 1) b ≡ sets w at (a ∷ b ∷ [])
+put_two w at a b = rw add-one
+
+pub put_four : (w : List ℕ) (at v : ℕ) → sets (sets w at (print2 (v / 256))) (at + 2) (print2 v) ≡ sets w at (print4 v)
+put_four w at v = sets_more w (print2 (v / 256)) (print2 v) at ∙ ap (sets w at) (sym (print_four v))
+
+pub put_eight : (w : List ℕ) (at v : ℕ) → sets (sets w at (print4 (v / 65536))) (at + 4) (print4 v) ≡ sets w at (print8 v)
+put_eight w at v = sets_more w (print4 (v / 65536)) (print4 v) at ∙ ap (sets w at) (sym (print_eight v))
 
 -- an element put in front of those that are there
 one_front : (s : List ℕ) (j d : ℕ) → j < length s → drop j (set s j d) ≡ d ∷ drop (suc j) s

@@ -4,7 +4,9 @@ use Rattle.std.specs.Option.{unwrap_or}
 use Rattle.std.proofs.Math.Path.{ap, sym}
 use Rattle.std.proofs.Common.{◌∙◌, append_assoc, append-nil, add-one, arith, leb-true, leb-false, length-append, take-suc, take_all, length-take-le}
 use Rattle.std.proofs.lemmas.Bool.{lt-leb}
+use Rattle.std.proofs.lemmas.List.Edits.{sets, sets-eq}
 use Rattle.std.proofs.Math.Seq.{take-length}
+use Rattle.lists.specs.Splice.{splice}
 use Rattle.lists.specs.Basics.{when◌then◌else◌, require, every}
 use Rattle.lists.specs.Choice.{on_yes, on_no}
 use Rattle.texts.specs.Laws.{all_fits}
@@ -53,6 +55,11 @@ pub length_eights : (l : List ℕ) → length (eights l) ≡ 8 * length l
 unfolding eights
 length_eights [] = refl
 length_eights (v ∷ l) = let e = length-append (print8 v) (eights l) in let f = length_print8 v in let g = length_eights l in omega arith
+
+-- digits that are put into a line, as a piece of it
+pub put_piece : (w vs : List ℕ) (at : ℕ) → at + length vs ≤ length w → sets w at vs ≡ splice w at vs
+unfolding splice
+put_piece w vs at h = sets-eq vs w at h
 
 -- eight digits more, where n bytes are kept
 pub eights_put : (n : ℕ) (t l : List ℕ) (i : ℕ) → i < length l → 2 + 8 * length l ≤ n → t ≡ print2 240 ++ eights (take i l) → take n (t ++ print8 (get_or l i 0)) ≡ print2 240 ++ eights (take (i + 1) l)

@@ -1,14 +1,14 @@
 -- Parts of a list changed in place: what an edit through a lent part does to the whole. Assumes nothing.
-use Rattle.std.specs.Prelude.{◌≡◌, refl, ℕ, ◌+◌, ◌-◌, ◌≤◌, take, replicate}
+use Rattle.std.specs.Prelude.{◌≡◌, refl, ℕ, suc, ◌+◌, ◌-◌, ◌≤◌, ◌<◌, take, set, replicate}
 use Rattle.std.proofs.Math.Path.{ap}
-use Rattle.std.proofs.Common.{sym, ◌∙◌, arith, length-append, length-take, drop_of_length-le, take_all, drop-drop, drop_at}
+use Rattle.std.proofs.Common.{sym, ◌∙◌, arith, length-append, length-take, drop_of_length-le, take_all, drop-drop, drop_at, add-one}
 use mathlib.Core.List.{List, [], ◌++◌, append_assoc, append-nil}
 use Rattle.std.proofs.Math.Nat.{zero-add, add_comm}
-use Rattle.std.proofs.Math.ListN.{length, drop, length-drop}
+use Rattle.std.proofs.Math.ListN.{length, drop, get_or, length-drop}
 use Rattle.std.proofs.lemmas.List.{replicate-append-replicate, length-replicate}
 use Rattle.std.proofs.lemmas.List.Edits.{sets}
 use borrow.Rule.Slice.PartMut.{put_mid}
-use Rattle.std.proofs.Math.Seq.{sets-eq, take-append_seam, drop-append_seam, drop-append-add}
+use Rattle.std.proofs.Math.Seq.{sets-eq, get_or-append-add, get_or-drop, drop-cons, set_at, take-suc, append_snoc, take-append_seam, drop-append_seam, drop-append-add}
 
 -- w with vs in the place of the elements from at on
 unfoldable pub splice : List ℕ → ℕ → List ℕ → List ℕ
@@ -37,9 +37,30 @@ put_part a k w vs e = rw (← e, drop-drop (length vs) a w) (sym (append_assoc (
 unfoldable pub shifted : ℕ → List ℕ → ℕ → List ℕ
 shifted g p k = take k (drop g p) ++ drop k p
 
+pub shifted_none : (g : ℕ) (p : List ℕ) → p ≡ shifted g p 0
+unfolding shifted
+shifted_none g p = refl
+
 pub length_shifted : (g : ℕ) (p : List ℕ) (k : ℕ) → k + g ≤ length p → length (shifted g p k) ≡ length p
 unfolding shifted
 length_shifted g p k h = simp (length-append, length-take, length-drop) (omega arith)
+
+module _ (g : ℕ) (p : List ℕ) (k : ℕ) (h : k + g < length p) where
+  len : length (take k (drop g p)) ≡ k
+  len = simp (length-take, length-drop) (omega arith)
+
+  pub shifted_read : get_or (shifted g p k) (k + g) 0 ≡ get_or p (k + g) 0
+  unfolding shifted
+  shifted_read =
+      ap (λ i. get_or (take k (drop g p) ++ drop k p) (i + g) 0) (sym len)
+      ∙ get_or-append-add (take k (drop g p)) (drop k p) g 0
+      ∙ get_or-drop k p g 0
+
+  pub shifted_step : set (shifted g p k) k (get_or p (k + g) 0) ≡ shifted g p (k + 1)
+  unfolding shifted
+  shifted_step =
+      rw (add-one, drop-cons p k 0 (omega arith), set_at (take k (drop g p)) (get_or p k 0) (drop (suc k) p) (get_or p (k + g) 0) k len, take-suc (drop g p) k 0 (simp length-drop (omega arith)), get_or-drop g p k 0, add_comm g k)
+      (sym (append_snoc (take k (drop g p)) (get_or p (k + g) 0) (drop (suc k) p)))
 
 -- g elements at the front taken out, the n after them moved up, and g zeros behind those
 unfoldable pub closed_up : ℕ → List ℕ → ℕ → List ℕ

@@ -4,9 +4,9 @@ use Rattle.std.proofs.Common.{◌∙◌, le-leb, inl, inr}
 use Rattle.std.specs.Option.{is_some}
 use Rattle.lists.specs.Merge.{every_append}
 use Rattle.protocol.specs.declared.refusal.Refusal.{Refusal}
-use Rattle.std.specs.Prelude.{◌⊎◌, Some, None, IsSome, Ok, Err, Bool, true, false, ◌&&◌, List, [], ◌∷◌, ◌++◌, ℕ, ◌+◌, ◌*◌, ◌≤◌, ◌<◌, length}
+use Rattle.std.specs.Prelude.{◌⊎◌, Some, None, IsSome, Ok, Err, Bool, true, false, ◌&&◌, ◌||◌, List, [], ◌∷◌, ◌++◌, ℕ, ◌+◌, ◌*◌, ◌≤◌, ◌<◌, length}
 use native.Mathlib.Omega.{arith}
-use Rattle.std.proofs.lemmas.Bool.{lt-leb}
+use Rattle.std.proofs.lemmas.Bool.{lt-leb, or_parts}
 use Rattle.std.proofs.Common.{nat_le, nat_lt, leb→le}
 use borrow.Author.Tests.{ltb-true, ltb-false}
 use Rattle.std.proofs.Math.ListN.{length-append}
@@ -113,6 +113,10 @@ module _ (t : List ℕ) (i rows bytes : ℕ) (fits : Bool) (c : Counted t i rows
             let v = c.sizes in
             ap₂ (λ p q. done p q) c.counts c.sizes
             ∙ asked _ (on_yes _ _ _ (rw (le-leb (length c.numbers) room.rows (omega arith), le-leb (length c.names) room.bytes (omega arith))))
+
+-- two tests of which none passes
+pub neither : (p q : Bool) → (p || q) ≡ false → (p ≡ false) × (q ≡ false)
+neither p q e = or_parts p q e
 
 -- The sheet's identifiers are words, and its lists fit into buffers of these lengths.
 pub record Roomy (s : Said) (form : List ℕ → List ℕ) (k l : ℕ) : Type 0 where

@@ -266,6 +266,14 @@ module _ (names : List ℕ) (s : Scan) (e : s ≡ scanned (first_name names)) wh
   pub scan_bytes : take s.length names ≡ first_name names
   scan_bytes = ap (λ n. take n names) scan_length ∙ first_take names
 
+  pub scan_text : name_text (first_name names) ≡ quote_if s.plain ++ (doubled (take s.length names) ++ quote_if s.plain)
+  scan_text = name_pieces (first_name names) s.plain scan_plain ∙ ap (λ l. quote_if s.plain ++ (doubled l ++ quote_if s.plain)) (sym scan_bytes)
+
+  pub scan_size : length (name_text (first_name names)) ≡ length (quote_if s.plain) + (length (doubled (take s.length names)) + length (quote_if s.plain))
+  scan_size =
+      name_size (first_name names) s.plain scan_plain
+      ∙ ap (λ l. length (quote_if s.plain) + (length (doubled l) + length (quote_if s.plain))) (sym scan_bytes)
+
 -- the last byte, if there is one
 pub ends_last : (l : List ℕ) (b : ℕ) → Some b ≡ slice_get l (length l - 1) → nat_eq b 0 ≡ ends_well l
 unfolding ends_well
@@ -281,6 +289,13 @@ ends_empty (x ∷ l) e =
     let h : i < length (x ∷ l) = omega arith in
     let q : None ≡ Some (get_or (x ∷ l) i 0) = e ∙ slice_get-get_or (x ∷ l) i 0 h in
     cc
+
+pub ends_at : (l : List ℕ) → (length l ≡ 0 → ⊥) → nat_eq (get_or l (length l - 1) 0) 0 ≡ ends_well l
+ends_at l h = ends_last l (get_or l (length l - 1) 0) (sym (slice_get-get_or l (length l - 1) 0 (omega arith)))
+
+-- part by part
+pub row_less : (r : Option ℕ) (a b q d : ℕ) → less_by (less_by (less_by (less_by r a) b) q) d ≡ less_by r (a + b + q + d)
+row_less r a b q d = ap (λ x. less_by (less_by x q) d) (less_less r a b) ∙ ap (λ x. less_by x d) (less_less r (a + b) q) ∙ less_less r (a + b + q) d
 
 pub count_most : (v : ℕ) → digit_count v ≤ 10
 unfolding digit_count

@@ -1,7 +1,7 @@
 -- What is written so far: digits from the last on, a name byte by byte, row by row. Assumes nothing.
 use Rattle.std.specs.Prelude.{◌≡◌, refl, Bool, true, false, List, [], ◌∷◌, ◌++◌, Option, None, Some, ℕ, zero, suc, ◌+◌, ◌-◌, ◌/◌, ◌%◌, ◌≤◌, ◌<◌, nat_eq, map, length, take, set, Err}
 use Rattle.std.proofs.Math.Path.{ap, ap₂}
-use Rattle.std.proofs.Common.{sym, ◌∙◌, subst, append_assoc, append-nil, add-zero, add-one, arith, le-leb, length-append, length-set, take-append-drop, take-suc, drop-cons, drop_at, get_or-set_same, drop-set-lt, take-take, drop_of_length-le}
+use Rattle.std.proofs.Common.{sym, ◌∙◌, subst, append_assoc, append-nil, add-zero, add-one, arith, le-leb, length-append, length-set, take-append-drop, take-suc, drop-cons, drop-drop, length-drop, drop_at, get_or-set_same, drop-set-lt, take-take, drop_of_length-le}
 use Rattle.std.proofs.lemmas.Bool.{lt-leb}
 use Rattle.std.proofs.Math.Dec.{eqb→eq}
 use Rattle.std.proofs.Math.ListN.{drop, get_or}
@@ -18,7 +18,8 @@ use Rattle.sheets.specs.Calls.{done, laid, sheet_text, write_call}
 use Rattle.sheets.specs.Decimal.{length_last}
 use Rattle.sheets.specs.Buffers.{split_name}
 use Rattle.sheets.specs.Laying.{splice_none, splice_twice, laid_none, laid_more}
-use Rattle.sheet_writing.specs.Scanning.{less_by, less_less, doubled_append}
+use Rattle.sheet_writing.specs.declared.names.Scan.{Scan}
+use Rattle.sheet_writing.specs.Scanning.{quote_if, scanned, scan_length, scan_quotes, scan_plain, row_parts, less_by, less_less, doubled_append}
 
 -- Digits: those that are left to write, before what is written, are all of them.
 pub record Digits (w t : List ℕ) (at count v left rest : ℕ) : Type 0 where
@@ -26,6 +27,9 @@ pub record Digits (w t : List ℕ) (at count v left rest : ℕ) : Type 0 where
   pub behind : last_digits left rest ++ drop (at + left) t ≡ last_digits count v ++ drop (at + count) w
   pub before : take (at + left) t ≡ take (at + left) w
   pub same : length t ≡ length w
+
+pub digits_none : (w : List ℕ) (at count v : ℕ) → Digits w w at count v count v
+digits_none w at count v = record { within = omega arith; behind = refl; before = refl; same = refl }
 
 drop_set_here : (l : List ℕ) (k d : ℕ) → k < length l → drop k (set l k d) ≡ d ∷ drop (suc k) l
 drop_set_here l k d h = drop-cons (set l k d) k 0 (simp length-set h) ∙ ap₂ (λ x y. x ∷ y) (get_or-set_same l k d 0 h) (drop-set-lt (suc k) l k d (omega arith))
@@ -212,6 +216,52 @@ pub written_all : (all w t rest : List ℕ) (out : ℕ) → rest ≡ [] → Writ
 written_all all w t rest out e k =
     let p : all ≡ k.so_far = k.parts ∙ ap (λ l. k.so_far ++ l) e ∙ append-nil k.so_far in
     (k.out_is ∙ ap length (sym p), k.text_is ∙ ap (laid w) (sym p))
+
+-- One row more, in names and identifiers that are kept whole: where the next name begins, and what is left of the names and of the room.
+module _ (names ids : List ℕ) (at i : ℕ) (s : Scan) (h : at ≤ length names) (l : i < length ids) (z : zeros (drop at names) ≡ length ids - i)
+    (e : s ≡ scanned (first_name (drop at names))) where
+  some : zeros (drop at names) ≡ suc (length ids - (i + 1))
+  some = omega arith
+
+  size : s.length ≡ length (first_name (drop at names))
+  size = scan_length (drop at names) s e
+
+  behind : drop (at + s.length + 1) names ≡ behind_name (drop at names)
+  behind =
+      let q : at + s.length + 1 ≡ at + (s.length + 1) = omega arith in
+      ap (λ k. drop k names) q ∙ sym (drop-drop (s.length + 1) at names) ∙ ap (λ k. drop (k + 1) (drop at names)) size
+      ∙ behind_is (drop at names) (length ids - (i + 1)) some
+
+  one : drop i ids ≡ get_or ids i 0 ∷ drop (i + 1) ids
+  one = drop-cons ids i 0 l ∙ ap (λ k. get_or ids i 0 ∷ drop k ids) (sym (add-one i))
+
+  pub step_within : at + s.length + 1 ≤ length names
+  step_within =
+      let x = size in
+      let y = name_within (drop at names) (length ids - (i + 1)) some in
+      let w = length-drop at names in
+      omega arith
+
+  pub step_zeros : zeros (drop (at + s.length + 1) names) ≡ length ids - (i + 1)
+  step_zeros = ap zeros behind ∙ zeros_behind (drop at names) (length ids - (i + 1)) some
+
+  pub step_rows : write_sheet (rows_in (drop at names) (drop i ids))
+      ≡ row_text (record { name = first_name (drop at names); identifier = get_or ids i 0 }) ++ write_sheet (rows_in (drop (at + s.length + 1) names) (drop (i + 1) ids))
+  step_rows =
+      next_row (drop at names) (drop i ids) (drop (i + 1) ids) (get_or ids i 0) one
+      ∙ ap (λ x. row_text (record { name = first_name (drop at names); identifier = get_or ids i 0 }) ++ write_sheet (rows_in x (drop (i + 1) ids))) (sym behind)
+
+  pub step_room : (room : Option ℕ) → less_by room (length (write_sheet (rows_in (drop at names) (drop i ids))))
+      ≡ less_by (less_by room (s.length + s.quotes + (length (quote_if s.plain) + length (quote_if s.plain)) + (digit_count (get_or ids i 0) + 3)))
+          (length (write_sheet (rows_in (drop (at + s.length + 1) names) (drop (i + 1) ids))))
+  step_room room =
+      room_more (drop at names) (drop i ids) (drop (i + 1) ids) (get_or ids i 0) one room
+      ∙ ap₂ (λ x y. less_by (less_by room x) (length (write_sheet (rows_in y (drop (i + 1) ids))))) sizes (sym behind)
+    where
+      sizes : length (row_text (record { name = first_name (drop at names); identifier = get_or ids i 0 })) ≡ s.length + s.quotes + (length (quote_if s.plain) + length (quote_if s.plain)) + (digit_count (get_or ids i 0) + 3)
+      sizes =
+          row_parts (first_name (drop at names)) s.plain (scan_plain (drop at names) s e) (get_or ids i 0)
+          ∙ ap₂ (λ x y. x + y + (length (quote_if s.plain) + length (quote_if s.plain)) + (digit_count (get_or ids i 0) + 3)) (sym size) (sym (scan_quotes (drop at names) s e))
 
 -- What the call gives, question by question.
 module _ (names ids text : List ℕ) where

@@ -1,6 +1,7 @@
 -- What the code does on its lists, as the meaning has it. Assumes nothing.
-use Rattle.std.specs.Prelude.{◌≡◌, refl, Bool, true, false, List, [], ◌∷◌, ◌++◌, ℕ, ◌+◌, ◌≤◌, length, take, nat_eq}
-use Rattle.std.proofs.Common.{ap, sym, ◌∙◌, take_all}
+use Rattle.std.specs.Prelude.{◌≡◌, refl, Bool, true, false, List, [], ◌∷◌, ◌++◌, ℕ, ◌+◌, ◌-◌, ◌≤◌, ◌<◌, length, take, drop, set, get_or, nat_eq}
+use Rattle.std.proofs.Common.{ap, sym, ◌∙◌, add-one, arith, drop-drop, take_all}
+use Rattle.std.proofs.Math.Seq.{paste, paste-suc}
 use borrow.Author.Tests.{ne_eqb}
 use Rattle.lists.specs.Basics.{when◌then◌else◌}
 use Rattle.protocol.specs.Frames.{line_call}
@@ -8,6 +9,17 @@ use Rattle.texts.specs.Laws.{all_fits}
 use Rattle.texts.specs.Lines.{Gathering, kept, gathered}
 use Rattle.protocol.specs.Ringrun.{Standing, line_ended, byte_fed, fed, ended}
 use Rattle.stream.specs.Pieces.{cut, cut_fed}
+
+-- one byte more is copied
+pub paste_more : (d : List ℕ) (at : ℕ) (s : List ℕ) (j : ℕ) → at + j < length d → j < length s
+    → set (paste d at s j) (at + j) (get_or s j 0) ≡ paste d at s (j + 1)
+paste_more d at s j h k = rw add-one (paste-suc d at s j 0 h k)
+
+-- from turn to turn
+pub drop_further : (a b : ℕ) (l m : List ℕ) → a ≤ b → drop a l ≡ drop a m → drop b l ≡ drop b m
+drop_further a b l m h e =
+    let s : b ≡ a + (b - a) = omega arith in
+    rw s (sym (drop-drop (b - a) a l) ∙ ap (drop (b - a)) e ∙ drop-drop (b - a) a m)
 
 -- the answer to a line stands behind those that wait, where there is room for it
 pub answered : (n : ℕ) (w l after out text : List ℕ) → line_call w l ≡ record { printed = text; slice = after } → length out + length text ≤ n
