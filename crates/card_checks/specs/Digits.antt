@@ -1,21 +1,18 @@
 -- Do the machines differ? Cards are parted into groups, by one digit of four bits more in each pass. For every list of numbers f. Assumes nothing.
-use Rattle.std.specs.Prelude.{◌≡◌, refl, ◌≢◌, Bool, true, false, ◌&&◌, List, map, get_or, length, set}
-use Rattle.std.proofs.lemmas.List.{get_or-map, map-set, length-map}
-use Rattle.card_checks.specs.declared.digits.Part.{Part}
-use Rattle.std.proofs.Math.Path.{sym, ap, subst}
+use Rattle.std.specs.Prelude.{◌≡◌, refl, ◌≢◌, Bool, true, false, ◌&&◌, List, get_or, length, set}
+use Rattle.std.proofs.Math.Path.{sym, ap}
 use Rattle.std.proofs.Common.{◌∙◌, ap₂, true≢false, add-one, length-set, ext_get_or, get_or-set_same, get_or-set_other}
 use Prim.Native.Nat.{ℕ, zero, suc, ◌+◌, ◌-◌, ◌*◌, ◌/◌, ◌%◌, ◌^◌, ◌≤◌, ◌<◌}
 use Rattle.std.proofs.Math.Decide.{dec_lt, ℕ_discrete}
 use Rattle.std.proofs.Math.Numerals.{unary_clauses}
 use native.Mathlib.Omega.{arith}
 use Rattle.std.proofs.Common.{nat_eq}
-use Rattle.std.specs.Int.Bits.{bit_or}
 use Rattle.std.proofs.Math.Dec.{eqb→eq, T_not}
 use Rattle.lists.specs.Basics.{when◌then◌else◌, distinct, table}
 use Rattle.lists.specs.Choice.{choose, passes}
 use Rattle.lists.specs.Members.{filled}
 use Rattle.lists.specs.Tests.{→eqb}
-use Rattle.lists.specs.Merge.{merged, merged_each, each_merged, merged_more, or_test, failure_test, distinct_none}
+use Rattle.lists.specs.Merge.{merged, merged_each, each_merged, distinct_none}
 use Rattle.card_checks.specs.Buckets.{unmet, unmet_yes, unmet_no, distinct_more, distinct_fails}
 
 -- one more than the first place below n at which s is b, or 0
@@ -92,35 +89,6 @@ set_own l i d h = ext_get_or d (set l i (get_or l i d)) l (length-set l i (get_o
       | no e ↦ get_or-set_other l i j (get_or l i d) d e
     ])
 
--- What is left of the cards' machines, and the names of their groups.
-abbrev pub lefts : List Part → List ℕ
-lefts parts = map (λ p. p.left) parts
-
-abbrev pub names : List Part → List ℕ
-names parts = map (λ p. p.group) parts
-
--- one of them, and one written
-pub lefts_at : (parts : List Part) (i : ℕ) → i < length parts → (d : Part) → (get_or parts i d).left ≡ get_or (lefts parts) i 0
-lefts_at parts i l d = sym (get_or-map (λ p. p.left) parts i d 0 l)
-
-pub names_at : (parts : List Part) (i : ℕ) → i < length parts → (d : Part) → (get_or parts i d).group ≡ get_or (names parts) i 0
-names_at parts i l d = sym (get_or-map (λ p. p.group) parts i d 0 l)
-
-pub lefts_set : (parts : List Part) (i : ℕ) (p : Part) → lefts (set parts i p) ≡ set (lefts parts) i p.left
-lefts_set parts i p = map-set (λ q. q.left) parts i p
-
-pub names_set : (parts : List Part) (i : ℕ) (p : Part) → names (set parts i p) ≡ set (names parts) i p.group
-names_set parts i p = map-set (λ q. q.group) parts i p
-
--- the first i of them, and one more
-pub lefts_filled : (parts : List Part) (i : ℕ) (p : Part) (g : ℕ → ℕ) → i < length parts → p.left ≡ g i → ((k : ℕ) → k < i → get_or (lefts parts) k 0 ≡ g k)
-    → (k : ℕ) → k < i + 1 → get_or (lefts (set parts i p)) k 0 ≡ g k
-lefts_filled parts i p g l e f k u = ap (λ z. get_or z k 0) (lefts_set parts i p) ∙ filled (lefts parts) i p.left 0 g (omega (arith, length-map parts (λ q. q.left))) e f k u
-
-pub names_filled : (parts : List Part) (i : ℕ) (p : Part) (g : ℕ → ℕ) → i < length parts → p.group ≡ g i → ((k : ℕ) → k < i → get_or (names parts) k 0 ≡ g k)
-    → (k : ℕ) → k < i + 1 → get_or (names (set parts i p)) k 0 ≡ g k
-names_filled parts i p g l e f k u = ap (λ z. get_or z k 0) (names_set parts i p) ∙ filled (names parts) i p.group 0 g (omega (arith, length-map parts (λ q. q.group))) e f k u
-
 -- A slot for each group, from 0 to 512, and each digit.
 abbrev pub slot_count : ℕ
 slot_count = 8208
@@ -192,30 +160,6 @@ module _ (m : ℕ) (rest groups : List ℕ) where
 
   pub parting_all : (i : ℕ) (rest' groups' slots : List ℕ) → Parting m i rest groups rest' groups' slots → i ≡ m → Parted m rest groups rest' groups'
   parting_all i rest' groups' slots P e = record { groups_are = λ j l. P.groups_are j (omega arith); rest_are = λ j l. P.rest_are j (omega arith) }
-
--- The same of the parts: card i has a slot, and gets its group.
-module _ (m : ℕ) (old parts : List Part) (slots : List ℕ) (i : ℕ) (P : Parting m i (lefts old) (names old) (lefts parts) (names parts) slots)
-    (l : i < m) (room : i < length parts) (few : (j : ℕ) → j < m → get_or (names old) j 0 ≤ 512) (d : Part) where
-  abbrev slot : ℕ
-  slot = (get_or parts i d).group * 16 + (get_or parts i d).left % 16
-
-  slot_is : slot ≡ get_or (names parts) i 0 * 16 + get_or (lefts parts) i 0 % 16
-  slot_is = ap₂ (λ x y. x * 16 + y % 16) (names_at parts i room d) (lefts_at parts i room d)
-
-  pub part_slot : slot < slot_count
-  part_slot = omega (arith, slot_is, slot_below m (lefts old) (names old) i (lefts parts) (names parts) slots P l few)
-
-  pub part_more : (first : ℕ) → length slots ≡ slot_count → first ≡ (when nat_eq (get_or slots slot 0) 0 then i + 1 else get_or slots slot 0)
-      → (part : Part) → part.left ≡ (get_or parts i d).left / 16 → part.group ≡ first → (slots' : List ℕ) → slots' ≡ set slots slot first
-      → Parting m (i + 1) (lefts old) (names old) (lefts (set parts i part)) (names (set parts i part)) slots'
-  part_more first size e part el eg slots' es =
-      subst (λ z. Parting m (i + 1) (lefts old) (names old) (lefts (set parts i part)) (names (set parts i part)) z) (sym es)
-      (subst (λ z. Parting m (i + 1) (lefts old) (names old) z (names (set parts i part)) (set slots slot first))
-      (sym (lefts_set parts i part ∙ ap (set (lefts parts) i) (el ∙ ap (λ z. z / 16) (lefts_at parts i room d))))
-      (subst (λ z. Parting m (i + 1) (lefts old) (names old) (set (lefts parts) i (get_or (lefts parts) i 0 / 16)) z (set slots slot first))
-      (sym (names_set parts i part ∙ ap (set (names parts) i) eg))
-      (parting_more m (lefts old) (names old) i slot first (lefts parts) (names parts) slots P l
-      (omega (arith, length-map parts (λ p. p.left))) (omega (arith, length-map parts (λ p. p.group))) size part_slot slot_is e)))
 
 -- After a pass a group has the name of its first card, one more than its place.
 pub record Led (m : ℕ) (groups : List ℕ) : Type 0 where
@@ -293,30 +237,6 @@ meets f n i j k l e = distinct_fails f (i + 1) n (distinct_more f i ∙ ap (λ z
 -- How many cards do not lead their groups, as the code tells it.
 abbrev pub following : ℕ → List ℕ → ℕ
 following m groups = merged m (λ i. when nat_eq (get_or groups i 0) (i + 1) then 0 else 1)
-
--- one card more, which gets its group
-merged_same : (f g : ℕ → ℕ) (n : ℕ) → ((i : ℕ) → i < n → f i ≡ g i) → merged n f ≡ merged n g
-unfolding merged
-merged_same f g zero h = refl
-merged_same f g (suc n) h = ap₂ bit_or (merged_same f g n (λ i l. h i (omega arith))) (h n (omega arith))
-
-pub following_more : (parts : List Part) (i : ℕ) (part : Part) → i < length parts → (lead : Bool) → lead ≡ nat_eq (following i (names parts)) 0 → (x : ℕ) → x ≡ part.group
-    → (lead && nat_eq x (i + 1)) ≡ nat_eq (following (i + 1) (names (set parts i part))) 0
-following_more parts i part l lead e x q =
-    ap₂ (λ a b. a && b)
-    (e ∙ ap (λ z. nat_eq z 0) (merged_same (λ j. fails j (get_or (names parts) j 0)) (λ j. fails j (get_or new j 0)) i
-    (λ j k. ap (fails j) (sym (ap (λ z. get_or z j 0) (names_set parts i part) ∙ get_or-set_other (names parts) i j part.group 0 (omega arith))))))
-    (ap (λ z. nat_eq z (i + 1)) (q ∙ sym here) ∙ sym (failure_test (nat_eq (get_or new i 0) (i + 1))))
-    ∙ sym (ap (λ z. nat_eq z 0) (merged_more i (λ j. fails j (get_or new j 0))) ∙ or_test (following i new) (fails i (get_or new i 0)))
-  where
-    new : List ℕ
-    new = names (set parts i part)
-
-    fails : ℕ → ℕ → ℕ
-    fails j y = when nat_eq y (j + 1) then 0 else 1
-
-    here : get_or new i 0 ≡ part.group
-    here = ap (λ z. get_or z i 0) (names_set parts i part) ∙ get_or-set_same (names parts) i part.group 0 (omega (arith, length-map parts (λ p. p.group)))
 
 all_lead : (m : ℕ) (groups : List ℕ) → following m groups ≡ 0 → (i : ℕ) → i < m → get_or groups i 0 ≡ i + 1
 all_lead m groups e i l =

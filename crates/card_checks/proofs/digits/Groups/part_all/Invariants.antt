@@ -3,9 +3,9 @@ use mathlib.Core.Path.{◌≡◌}
 use mathlib.Core.Logic.{◌≢◌}
 use Prim.Native.Nat.{ℕ, ◌-◌, ◌≤◌, ◌<◌}
 use lib.ListN.{get_or}
-use Rattle.card_checks.specs.Digits.{lefts, names, Grouped, Led, following}
+use Rattle.card_checks.specs.Digits.{Grouped, Led, following}
 use Rattle.card_checks.proofs.digits.Groups.part_all.Given as goal
 
 abbrev pub invariant-loop : goal.invariant-loop
-invariant-loop l = (l.self.count ≡ l.initial.self.count) × ((j : ℕ) → j < l.initial.self.count → get_or (names l.self.parts) j 0 ≤ 512)
-    × ((f : ℕ → ℕ) → Grouped f l.initial.self.count 6 (lefts l.initial.self.parts) (names l.initial.self.parts) → Grouped f l.initial.self.count (6 - l.counter) (lefts l.self.parts) (names l.self.parts)) × (0 < l.counter → Led l.initial.self.count (names l.self.parts)) × (0 < l.counter → following l.initial.self.count (names l.self.parts) ≢ 0)
+invariant-loop l = (l.self.count ≡ l.initial.self.count) × ((j : ℕ) → j < l.initial.self.count → get_or l.self.names j 0 ≤ 512)
+    × ((f : ℕ → ℕ) → Grouped f l.initial.self.count 6 l.initial.self.rest l.initial.self.names → Grouped f l.initial.self.count (6 - l.counter) l.self.rest l.self.names) × (0 < l.counter → Led l.initial.self.count l.self.names) × (0 < l.counter → following l.initial.self.count l.self.names ≢ 0)
