@@ -6,7 +6,9 @@ ghost use Rattle.protocol.specs.Answers.{refusal};
 ghost use Rattle.protocol.specs.CardBytes.{step_cards_bytes, offer_bytes, fresh_by_cards_bytes};
 
 use protocol::Refusal;
-use protocol::form::{ANSWER_WORDS, BOOK_BYTES, BOOK_WORDS, RECORD_BYTES, RECORD_WORDS};
+use protocol::form::{
+    ANSWER_BYTES, ANSWER_WORDS, BOOK_BYTES, BOOK_WORDS, RECORD_BYTES, RECORD_WORDS,
+};
 use word_bytes::{Words, loaded, save};
 
 // One command on the record in the lent bytes, with the cards in others. Only the first words of both are loaded: a step looks at nothing behind them.
@@ -20,7 +22,7 @@ pub fn step(
 ) -> Result<(), Refusal>
     ensures { step_cards_bytes words.old book.old operation x y out.old ≡ record { code = refusal result; bytes = words.new; book = book.new; output = out.new } }
 {
-    if out.len() < 20 {
+    if out.len() < ANSWER_BYTES {
         return Err(Refusal::OutputShort);
     }
     let mut w = loaded::<RECORD_WORDS>(words)?;

@@ -19,8 +19,10 @@ pub const MESSAGE_WORDS: usize = 6;
 
 pub const MOST_MESSAGES: u32 = 256;
 
-// The words of an answer.
+// The words of an answer, and the same as bytes.
 pub const ANSWER_WORDS: usize = 5;
+
+pub const ANSWER_BYTES: usize = 20;
 
 // 'Pointers are hub numbers, 255 for none.' (No Option: a row is words that callers in C lend.)
 pub const NONE: u32 = 255;

@@ -10,14 +10,14 @@ ghost use Rattle.protocol.specs.Bytes.{step_bytes, owner_bytes};
 
 pub use crate::foundings::fresh;
 use protocol::Refusal;
-use protocol::form::{ANSWER_WORDS, RECORD_WORDS};
+use protocol::form::{ANSWER_BYTES, ANSWER_WORDS, RECORD_WORDS};
 use word_bytes::{loaded, save};
 
 // One command on the record in the lent bytes. Only the record is loaded, since a step looks at nothing behind it.
 pub fn step(words: &mut [u8], operation: u32, x: u32, y: u32, out: &mut [u8]) -> Result<(), Refusal>
     ensures { step_bytes words.old operation x y out.old ≡ record { code = refusal result; bytes = words.new; output = out.new } }
 {
-    if out.len() < 20 {
+    if out.len() < ANSWER_BYTES {
         return Err(Refusal::OutputShort);
     }
     let mut w = loaded::<RECORD_WORDS>(words)?;

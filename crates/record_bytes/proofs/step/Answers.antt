@@ -10,9 +10,9 @@ use Rattle.record_bytes.specs.Results.{step_17, step_1, step_rest}
 use borrow.Author.Rules.{rules}
 use Rattle.record_bytes.proofs.step.Goals as goal
 
-pub returns-then-out-lt20 : goal.returns-then-out-lt20
+pub returns-then-out-lt-ANSWER_BYTES : goal.returns-then-out-lt-ANSWER_BYTES
 unfolding refusal
-returns-then-out-lt20 c = let a = c.args in step_17 a.words.now a.out.now a.operation a.x a.y (omega arith)
+returns-then-out-lt-ANSWER_BYTES c = let a = c.args in step_17 a.words.now a.out.now a.operation a.x a.y (omega arith)
 
 pub returns-in_err-w : goal.returns-in_err-w
 unfolding refusal

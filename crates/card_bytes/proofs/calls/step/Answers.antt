@@ -8,9 +8,9 @@ use native.Mathlib.Omega.{arith}
 use Rattle.card_bytes.specs.Results.{step_cards_17, step_cards_1, step_cards_short, step_cards_rest}
 use Rattle.card_bytes.proofs.calls.step.Goals as goal
 
-pub returns-then-out-lt20 : goal.returns-then-out-lt20
+pub returns-then-out-lt-ANSWER_BYTES : goal.returns-then-out-lt-ANSWER_BYTES
 unfolding refusal
-returns-then-out-lt20 c = let a = c.args in step_cards_17 a.words.now a.book.now a.out.now a.operation a.x a.y (omega arith)
+returns-then-out-lt-ANSWER_BYTES c = let a = c.args in step_cards_17 a.words.now a.book.now a.out.now a.operation a.x a.y (omega arith)
 
 pub returns-in_err-w : goal.returns-in_err-w
 unfolding refusal
