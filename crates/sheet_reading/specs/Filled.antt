@@ -28,7 +28,7 @@ use Rattle.sheets.proofs.Sound.{same_lists}
 use Rattle.sheet_reading.specs.Carried.{Forms}
 use Rattle.sheet_reading.specs.Onward.{onward, onward_end, Grown, onward_grown}
 use Rattle.sheet_reading.specs.Judged.{word_some, word_is, RowIs}
-use Rattle.sheet_reading.specs.Put.{RowPut}
+use Rattle.sheet_reading.specs.Put.{Readable, RowPut}
 
 -- What is told of a text where there is room for so many rows and bytes: what it takes, or why it is refused.
 unfoldable pub judged : Counts → Said → Outcome
@@ -246,6 +246,18 @@ module _ (form : List ℕ → List ℕ) (none : form [] ≡ []) (join : (x y : L
   }
 
   module _ (room : Roomy (reading t) form (length ids₀) (length names₀)) (ids names : List ℕ) (row at i : ℕ) (f : Filled form t ids₀ names₀ ids names row at i) where
+    pub fill_readable : Readable t Start i at (length names₀)
+    fill_readable = record {
+      names = f.said;
+      numbers = f.numbers;
+      value = f.value;
+      all_names = room.n;
+      all_numbers = room.i;
+      says = sym f.says ∙ room.is;
+      here = f.here;
+      fits = room.names_fit;
+    }
+
     module _ (names' : List ℕ) (p : Row) (r : RowPut t i names at names' p) where
       abbrev numbers' : List ℕ
       numbers' = f.numbers ++ (r.number ∷ [])

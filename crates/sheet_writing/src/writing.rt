@@ -47,13 +47,9 @@ fn write<T: Identifier>(names: &[u8], identifiers: &[T], text: &mut [u8]) -> Res
     if !names_for(names, rows) {
         return Err(Refusal::NoSheet);
     }
-    match room_left(names, identifiers, text.len()) {
-        None => Err(Refusal::RoomShort),
-        Some(_) => {
-            let bytes = put_rows(names, identifiers, text);
-            Ok(Counts { rows, bytes })
-        }
-    }
+    room_left(names, identifiers, text.len()).ok_or(Refusal::RoomShort)?;
+    let bytes = put_rows(names, identifiers, text);
+    Ok(Counts { rows, bytes })
 }
 
 pub fn write_sheet(names: &[u8], identifiers: &[u32], text: &mut [u8]) -> Result<Counts, Refusal>

@@ -1,5 +1,7 @@
 -- What is loaded and written back, word by word. (The laws of words and bytes are in `layout`.) Assumes nothing.
 use Rattle.std.specs.Prelude.{◌≡◌, List, [], ◌∷◌, ◌++◌, ℕ, zero, suc, ◌+◌, ◌*◌, ◌/◌, ◌<◌, ◌≤◌, length, get_or, take, drop, set}
+use Rattle.std.specs.Int.{w32, from_le_bytes}
+use Rattle.std.specs.Simd.{first_chunks}
 use Rattle.std.proofs.Math.Path.{refl, ap}
 use Rattle.std.proofs.Common.{sym, ◌∙◌, append_assoc, append-nil, add_assoc, arith, add-one, length-drop, take-suc, drop-drop, drop-cons, length-take-le, take-suc-set}
 use Rattle.lists.specs.Basics.{All, table}
@@ -45,6 +47,18 @@ four_more b n h =
 
     end : (n : ℕ) → 4 * n + 4 ≡ 4 * suc n
     end n = omega arith
+
+-- the four bytes of word i, cut off with those before them
+chunk_at : (b : List ℕ) (n i : ℕ) → i < n → get_or (first_chunks 4 n b) i [] ≡ take 4 (drop (4 * i) b)
+chunk_at b zero i h = absurd (omega arith)
+chunk_at b (suc n) zero h = refl
+chunk_at b (suc n) (suc i) h =
+    let e : 4 + 4 * i ≡ 4 * suc i = omega arith in
+    chunk_at (drop 4 b) n i (omega arith) ∙ ap (take 4) (drop-drop (4 * i) 4 b ∙ ap (λ k. drop k b) e)
+
+pub chunk_word : (b : List ℕ) (n i : ℕ) → i < n → 4 * n ≤ length b → from_le_bytes w32 (get_or (first_chunks 4 n b) i []) ≡ word_at b i
+chunk_word b n i h l =
+    ap (from_le_bytes w32) (chunk_at b n i h ∙ ap (take 4) (four_more b i (omega arith))) ∙ omega arith
 
 -- all words are the first n and those of the bytes behind them
 pub words_split : (b : List ℕ) (n : ℕ) → 4 * n ≤ length b → words_of b ≡ first_words b n ++ words_of (drop (4 * n) b)

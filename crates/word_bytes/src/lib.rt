@@ -6,27 +6,19 @@ mod counted;
 ghost use Rattle.std.specs.Prelude.{◌≡◌, ◌+◌, ◌*◌, ◌≤◌, ◌<◌, length, MatchResult};
 ghost use Rattle.protocol.specs.declared.refusal.Refusal.TheVariants.{RecordShort};
 ghost use Rattle.protocol.specs.Bytes.{over};
-ghost use Rattle.word_bytes.specs.Carry.{word_at, first_words};
+ghost use Rattle.word_bytes.specs.Carry.{first_words};
 
 pub use counted::Words;
 use protocol::Refusal;
-
-// Word i, lowest byte first.
-fn word_at(b: &[u8], i: usize) -> u32
-    requires { 4 * i + 4 ≤ length b.now }
-    ensures { result ≡ word_at b.now i }
-{
-    let at = 4 * i;
-    u32::from_le_bytes([b[at], b[at + 1], b[at + 2], b[at + 3]])
-}
 
 // As many words as there is room for, from the first byte on.
 pub fn load(b: &[u8], w: &mut [u32])
     requires { 4 * length w.old ≤ length b.now }
     ensures { w.new ≡ first_words b.now (length w.old) }
 {
+    let (words, _) = b.as_chunks::<4>();
     for (i, x) in w.iter_mut().enumerate() {
-        *x = word_at(b, i);
+        *x = u32::from_le_bytes(words[i]);
     }
 }
 
