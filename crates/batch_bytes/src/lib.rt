@@ -8,7 +8,7 @@ ghost use Rattle.protocol.specs.Batch.{batch_bytes};
 
 use protocol::Refusal;
 use protocol::form::{MOST_QUESTIONS, PLACE_WORDS, RECORD_WORDS};
-use word_bytes::{Words, loaded, save};
+use word_bytes::{Words, checked, save};
 
 // Four bytes a word.
 const PLACE_BYTES: usize = 24;
@@ -19,7 +19,7 @@ const PLACES_WORDS: usize = 384;
 pub fn ask(words: &mut [u8], node: u32, numbers: &[u8], outcomes: &mut [u8]) -> Result<(), Refusal>
     ensures { batch_bytes words.old node numbers.now outcomes.old ≡ record { code = refusal result; bytes = words.new; output = outcomes.new } }
 {
-    let mut w = loaded::<RECORD_WORDS>(words)?;
+    let mut w = checked::<RECORD_WORDS>(words)?;
     wellformed::questions(&w)?;
     let asked = Words::<MOST_QUESTIONS>::of(numbers).ok_or(Refusal::RouteLong)?;
     let numbers = asked.as_slice();

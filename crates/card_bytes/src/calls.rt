@@ -9,7 +9,7 @@ use protocol::Refusal;
 use protocol::form::{
     ANSWER_BYTES, ANSWER_WORDS, BOOK_BYTES, BOOK_WORDS, RECORD_BYTES, RECORD_WORDS,
 };
-use word_bytes::{Words, loaded, save};
+use word_bytes::{Words, checked, save};
 
 // One command on the record in the lent bytes, with the cards in others. Only the first words of both are loaded: a step looks at nothing behind them.
 pub fn step(
@@ -25,8 +25,8 @@ pub fn step(
     if out.len() < ANSWER_BYTES {
         return Err(Refusal::OutputShort);
     }
-    let mut w = loaded::<RECORD_WORDS>(words)?;
-    let mut k = loaded::<BOOK_WORDS>(book)?;
+    let mut w = checked::<RECORD_WORDS>(words)?;
+    let mut k = checked::<BOOK_WORDS>(book)?;
     let a = cards::step(&mut w, &mut k, operation, x, y)?;
     save(words, &w);
     save(book, &k);
@@ -44,8 +44,8 @@ pub fn offer(
 ) -> Result<(), Refusal>
     ensures { offer_bytes words.now book.old machine revision price ≡ record { code = refusal result; book = book.new } }
 {
-    let w = loaded::<RECORD_WORDS>(words)?;
-    let mut k = loaded::<BOOK_WORDS>(book)?;
+    let w = checked::<RECORD_WORDS>(words)?;
+    let mut k = checked::<BOOK_WORDS>(book)?;
     card_offers::offer(&w, &mut k, machine, revision, price)?;
     save(book, &k);
     Ok(())

@@ -11,7 +11,7 @@ ghost use Rattle.protocol.specs.Bytes.{step_bytes, owner_bytes};
 pub use crate::foundings::fresh;
 use protocol::Refusal;
 use protocol::form::{ANSWER_BYTES, ANSWER_WORDS, RECORD_WORDS};
-use word_bytes::{loaded, save};
+use word_bytes::{checked, save};
 
 // One command on the record in the lent bytes. Only the record is loaded, since a step looks at nothing behind it.
 pub fn step(words: &mut [u8], operation: u32, x: u32, y: u32, out: &mut [u8]) -> Result<(), Refusal>
@@ -20,7 +20,7 @@ pub fn step(words: &mut [u8], operation: u32, x: u32, y: u32, out: &mut [u8]) ->
     if out.len() < ANSWER_BYTES {
         return Err(Refusal::OutputShort);
     }
-    let mut w = loaded::<RECORD_WORDS>(words)?;
+    let mut w = checked::<RECORD_WORDS>(words)?;
     let a = steps::step(&mut w, operation, x, y)?;
     save(words, &w);
     save(out, &<[u32; ANSWER_WORDS]>::from(a));
@@ -34,7 +34,7 @@ pub fn owner(words: &[u8], number: u32, out: &mut [u8]) -> Result<(), Refusal>
     if out.len() < 4 {
         return Err(Refusal::OutputShort);
     }
-    let w = loaded::<RECORD_WORDS>(words)?;
+    let w = checked::<RECORD_WORDS>(words)?;
     let hub = queries::owner(&w, number)?;
     save(out, &[hub]);
     Ok(())

@@ -22,16 +22,24 @@ pub fn load(b: &[u8], w: &mut [u32])
     }
 }
 
-// The first N words, as a record or its cards are, if there are so many (question 1), and nothing that is behind them.
-pub fn loaded<const N: usize>(b: &[u8]) -> Result<[u32; N], Refusal>
+// The first N words, as a record or its cards are, and nothing that is behind them.
+pub fn loaded<const N: usize>(b: &[u8]) -> [u32; N]
+    requires { 4 * N ≤ length b.now }
+    ensures { result ≡ first_words b.now N }
+{
+    let mut w = [0u32; N];
+    load(b, &mut w);
+    w
+}
+
+// The same of bytes of any length: are there N words? 1.
+pub fn checked<const N: usize>(b: &[u8]) -> Result<[u32; N], Refusal>
     ensures { MatchResult result (λ w. (w ≡ first_words b.now N) × (4 * N ≤ length b.now)) (λ refusal. (refusal ≡ RecordShort) × (length b.now < 4 * N)) }
 {
     if b.len() / 4 < N {
         return Err(Refusal::RecordShort);
     }
-    let mut w = [0u32; N];
-    load(b, &mut w);
-    Ok(w)
+    Ok(loaded(b))
 }
 
 // All words, from the first byte on. The bytes behind them stay. (How long the bytes are is a clause here and at `load`, and no type: C lends them, of
