@@ -15,7 +15,8 @@ use sheet_writing::write_sheet_bytes;
 // Two counts of eight bytes.
 const COUNTS_BYTES: usize = 16;
 
-// The hubs of an office sheet, into the lent identifiers and names.
+// The hubs of an office sheet, into the lent identifiers and names. (`write` begins and ends alike. One function for both would take what is between
+// as a closure, with its contract, and be longer than these lines.)
 pub fn read(
     text: &[u8],
     identifiers: &mut [u8],

@@ -3,6 +3,8 @@ ghost use Rattle.std.specs.Prelude.{◌≡◌};
 ghost use Rattle.lists.specs.Basics.{table};
 ghost use Rattle.sheet_reading.specs.Kinds.{kind_of, plain_byte, quoted_byte};
 
+use sheets::{COMMA, CR, LF, QUOTE};
+
 // Where a byte stands for itself: in every name, in a quoted name only, or in none.
 #[derive(Clone, Copy, Debug, PartialEq, Eq)]
 pub enum Kind {
@@ -24,10 +26,10 @@ impl Kinds {
     pub(crate) fn new() -> Kinds {
         let mut of = [Kind::Plain; 256];
         of[0] = Kind::Neither;
-        of[10] = Kind::Quoted;
-        of[13] = Kind::Quoted;
-        of[34] = Kind::Neither;
-        of[44] = Kind::Quoted;
+        of[usize::from(LF)] = Kind::Quoted;
+        of[usize::from(CR)] = Kind::Quoted;
+        of[usize::from(QUOTE)] = Kind::Neither;
+        of[usize::from(COMMA)] = Kind::Quoted;
         Kinds { of }
     }
 

@@ -18,7 +18,7 @@ fn fill<T: Identifier>(text: &[u8], identifiers: &mut [T], names: &mut [u8])
     let mut row = 0;
     let mut at = 0;
     let mut i = 0;
-    // No `for`: a step is a row of the text.
+    // No `for`: a step is a row of the text, and writes its name. An iterator of rows would hold the names too, and would serve this loop alone.
     while i < text.len() {
         let r = copy_row(text, i, names, at);
         T::put(identifiers, row, r.value.unwrap());

@@ -58,7 +58,7 @@ pub(crate) fn judge(text: &[u8], room: Counts) -> Result<Counts, Refusal>
     let mut bytes = 0;
     let mut fits = true;
     let mut i = 0;
-    // No `for`: a step is a row of the text.
+    // No `for`: a step is a row of the text. An iterator of rows, with its laws, would be longer than the loop, and serve no other: `fill` writes.
     while i < text.len() {
         let row = kinds.row_at(text, i).ok_or(Refusal::NoSheet)?;
         rows += 1;

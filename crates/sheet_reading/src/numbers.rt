@@ -25,7 +25,7 @@ fn large(text: &[u8], from: usize, value: usize) -> Run
 }
 
 // The loop is left at the tenth figure, so that it need not look at each whether the number still fits. (A chain would have to carry place and value
-// side by side, to leave with both.)
+// side by side, to leave with both.) A run of no digits is a run too, which ends where it begins: what asks for a number says so.
 pub(crate) fn digits(text: &[u8], from: usize) -> Run
     requires { from ≤ length text.now }
     ensures { RunIs text.now from result }

@@ -253,7 +253,7 @@ module _ (names ids : List ℕ) (at i : ℕ) (s : Scan) (h : at ≤ length names
 
   pub step_room : (room : Option ℕ) → less_by room (length (write_sheet (rows_in (drop at names) (drop i ids))))
       ≡ less_by (less_by room (s.length + s.quotes + (length (quote_if s.plain) + length (quote_if s.plain)) + (digit_count (get_or ids i 0) + 3)))
-          (length (write_sheet (rows_in (drop (at + s.length + 1) names) (drop (i + 1) ids))))
+      (length (write_sheet (rows_in (drop (at + s.length + 1) names) (drop (i + 1) ids))))
   step_room room =
       room_more (drop at names) (drop i ids) (drop (i + 1) ids) (get_or ids i 0) one room
       ∙ ap₂ (λ x y. less_by (less_by room x) (length (write_sheet (rows_in y (drop (i + 1) ids))))) sizes (sym behind)

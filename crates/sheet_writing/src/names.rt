@@ -33,7 +33,8 @@ pub(crate) fn names_for(names: &[u8], count: usize) -> bool
     zeros(names) == count && ends_well(names)
 }
 
-// How long the first name is, how many quotes it has, and whether it may stand unquoted.
+// How long the first name is, how many quotes it has, and whether it may stand unquoted. (A type beside `Name`: this is what is counted
+// before the name is cut off; that has the bytes, and says that the counts are theirs.)
 #[derive(Clone, Copy)]
 struct Scan {
     length: usize,

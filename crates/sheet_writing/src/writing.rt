@@ -10,7 +10,8 @@ use crate::rows::{put_row, row_room};
 use protocol::Refusal;
 use sheets::Counts;
 
-// The room that all rows leave of so many bytes.
+// The room that all rows leave of so many bytes. (Here and in `put_rows` the loop takes each name off itself: an iterator of names, with its laws,
+// would be longer than both.)
 fn room_left<T: Identifier>(names: &[u8], identifiers: &[T], limit: usize) -> Option<usize>
     requires { zeros names.now ≡ length identifiers.now }
     ensures { result ≡ less_by (Some limit) (length (sheet_text names.now (map T.value identifiers.now))) }

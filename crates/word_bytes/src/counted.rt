@@ -5,7 +5,8 @@ ghost use Rattle.protocol.specs.Bytes.{words_of};
 use crate::load;
 use std::marker::Model;
 
-// The first `count` words of the room.
+// The first `count` words of the room. (A type beside the `Text` of texts: they share `as_slice`, one line. What a text does with LF and with what is
+// left over, and how words come out of bytes, is all the rest.)
 #[derive(Drop)]
 pub struct Words<const N: usize> {
     room: [u32; N],

@@ -1,4 +1,5 @@
-// Words out of bytes, and into bytes, for the calls from C. The loops have no way out but their end, so that the compiler can take many words at a time.
+// Words out of bytes, and into bytes, for the calls from C. The loops have no way out but their end, so that the compiler can take many words at a
+// time.
 #![tactic(auto)]
 
 mod counted;
@@ -42,8 +43,8 @@ pub fn checked<const N: usize>(b: &[u8]) -> Result<[u32; N], Refusal>
     Ok(loaded(b))
 }
 
-// All words, from the first byte on. The bytes behind them stay. (How long the bytes are is a clause here and at `load`, and no type: C lends them, of
-// any length.)
+// All words, from the first byte on. The bytes behind them stay. (How long the bytes are is a clause here and at `load`, and no type: C lends them,
+// of any length.)
 pub fn save(b: &mut [u8], w: &[u32])
     requires { 4 * length w.now ≤ length b.old }
     ensures { b.new ≡ over b.old w.now }
