@@ -1,13 +1,15 @@
 -- What digits are worth at most, the number that digits make one by one, and a test of all bytes. Assumes nothing.
 use Rattle.std.specs.Prelude.{◌≡◌, Bool, true, false, List, [], ◌∷◌, ◌++◌, ℕ, suc, ◌+◌, ◌-◌, ◌*◌, ◌^◌, ◌<◌, ◌≤◌, ◌&&◌, nat_lt, length, take, drop, get_or}
 use Rattle.std.proofs.Math.Path.{refl, ap, sym, ◌∙◌}
-use Rattle.std.proofs.Common.{add-one, arith, ltb→lt, subst, length-take}
+use Rattle.std.proofs.Common.{add-one, arith, ltb→lt, subst}
 use Rattle.std.proofs.Math.Nat.{pow-suc, pow-le-pow_right}
 use Rattle.std.proofs.Math.Seq.{drop-cons}
+use Rattle.std.proofs.lemmas.List.{get_or-drop, length-drop}
 use Rattle.std.specs.List.{list_all}
 use Rattle.lists.specs.Choice.{choose}
-use Rattle.lists.specs.Basics.{every}
-use Rattle.protocol.specs.Frames.{digit_value, number_after, number, read2}
+use Rattle.lists.specs.Basics.{every, table}
+use Rattle.lists.specs.Blocks.{length_table, table_of}
+use Rattle.protocol.specs.Frames.{digit_value, number_after, number, bytes_at, read2, read8}
 
 pub digit_bound : (b : ℕ) → digit_value b < 16
 unfolding digit_value
@@ -43,12 +45,38 @@ number_bound digits =
 
 pub read2_bound : (l : List ℕ) (at : ℕ) → read2 l at < 256
 read2_bound l at =
-    let b = number_bound (take 2 (drop at l)) in
-    let n = length-take 2 (drop at l) in
-    let k : length (take 2 (drop at l)) ≤ 2 = omega arith in
-    let z : 0 < 16 = omega arith in
-    let p : 16 ^ length (take 2 (drop at l)) ≤ 16 ^ 2 = pow-le-pow_right z k in
-    omega arith
+    let n : length (bytes_at l at 2) ≡ 2 = length_table 2 (λ i. get_or l (at + i) 0) in
+    subst (λ k. read2 l at < 16 ^ k) n (number_bound (bytes_at l at 2))
+
+-- two digits, and eight as twice four, of any line
+module _ (l : List ℕ) (at : ℕ) where
+  digit_at : (i j : ℕ) → i ≡ j → digit_value (get_or l i 0) ≡ digit_value (get_or l j 0)
+  digit_at i j e = ap (λ k. digit_value (get_or l k 0)) e
+
+  pub two_digits : read2 l at ≡ digit_value (get_or l at 0) * 16 + digit_value (get_or l (at + 1) 0)
+  unfolding table
+  two_digits = omega (arith, digit_at (at + 0) at (omega arith))
+
+  pub eight_digits : read8 l at ≡ (read2 l at * 256 + read2 l (at + 2)) * 65536 + (read2 l (at + 4) * 256 + read2 l (at + 6))
+  unfolding table
+  eight_digits =
+      let b = digit_at (at + 2 + 0) (at + 2) (omega arith) in
+      let c = digit_at (at + 2 + 1) (at + 3) (omega arith) in
+      let d = digit_at (at + 4 + 0) (at + 4) (omega arith) in
+      let e = digit_at (at + 4 + 1) (at + 5) (omega arith) in
+      let f = digit_at (at + 6 + 0) (at + 6) (omega arith) in
+      let g = digit_at (at + 6 + 1) (at + 7) (omega arith) in
+      omega arith
+
+-- where the line is long enough, they are the bytes of its part
+pub bytes_of : (l : List ℕ) (at n : ℕ) → at + n ≤ length l → bytes_at l at n ≡ take n (drop at l)
+bytes_of l at n h =
+    let d = length-drop at l in
+    table_of (drop at l) 0 (λ i. get_or l (at + i) 0) n (omega arith) (λ i k. sym (get_or-drop at l i 0))
+
+-- so a number read there is that of the part
+pub number_of_part : (l : List ℕ) (at n r : ℕ) → r ≡ number (take n (drop at l)) → at + n ≤ length l → number (bytes_at l at n) ≡ r
+number_of_part l at n r e h = ap number (bytes_of l at n h) ∙ sym e
 
 -- The byte at i decides, or leaves it to those after it.
 module _ (f : ℕ → Bool) (l : List ℕ) (i : ℕ) (h : i < length l) where

@@ -1,7 +1,7 @@
 -- The readings of the frame's edge cases, and how a refusal prints, computed. (Document 01's eight lines are a probe: atomicity/specs/Probes.antt.)
 -- Assumes nothing.
 use Rattle.std.specs.Prelude.{◌≡◌, refl, List, [], ◌∷◌, ◌++◌, ℕ, replicate, Some, None}
-use Rattle.lists.specs.Basics.{when◌then◌else◌, require, every}
+use Rattle.lists.specs.Basics.{when◌then◌else◌, require, every, table}
 use Rattle.std.specs.Prelude.{Err}
 use Rattle.protocol.specs.declared.Frame.TheVariants.{Founding, Command}
 use Rattle.protocol.specs.Names.{UNREADABLE}
@@ -19,7 +19,7 @@ pub edges :
     × (frame (ask_frame ++ (13 ∷ [])) ≡ None)
     × (frame (102 ∷ 48 ∷ []) ≡ None)
     × (frame (70 ∷ 48 ∷ []) ≡ Some (Founding 0))
-unfolding ask_frame is_digit digit_value founding command frame when◌then◌else◌ require every
+unfolding ask_frame is_digit digit_value founding command frame when◌then◌else◌ require every table
 edges = (refl, refl, refl, refl, refl)
 
 -- EE0D and EEFF

@@ -7,7 +7,7 @@ ghost use Rattle.protocol.specs.Frames.{is_digit, digit_value, number as number_
 fn is_digit(b: u8) -> bool
     ensures { result ≡ is_digit b }
 {
-    (48 <= b) & (b <= 57) | (65 <= b) & (b <= 70)
+    b.is_ascii_digit() | (b'A' <= b) & (b <= b'F')
 }
 
 // Leaves at the first byte that is no digit, since such a line needs no further look.

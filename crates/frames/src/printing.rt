@@ -32,8 +32,8 @@ pub fn put(out: &mut [u8], v: u32)
     }
 }
 
-// `hubsheet` prints such a line too, and has more room for one; where there is less than a line's, its first bytes. (The bytes begin as LF, so that what is put in front of the last of them ends with
-// one: a line that is copied whole takes less time than its text and then LF.)
+// `hubsheet` prints such a line too, and has more room for one; where there is less than a line's, its first bytes. (The bytes begin as LF, so that
+// what is put in front of the last of them ends with one: a line that is copied whole takes less time than its text and then LF.)
 pub fn refusal_line<const N: usize>(number: u32) -> Text<N>
     ensures { result ≡ take N (line (refusal_text number)) }
 {

@@ -1,6 +1,6 @@
 -- Document 01, '`ringrun`': the frame that a line is, what is printed for it, and the record's words after it.
 -- A line is its bytes without LF, which ends it.
-use Rattle.std.specs.Prelude.{Bool, ◌&&◌, ◌||◌, List, [], ◌∷◌, ◌++◌, ℕ, zero, suc, ◌+◌, ◌-◌, ◌*◌, ◌/◌, ◌%◌, nat_le, nat_lt, nat_eq, length, get_or, take, drop, Option, Some, None}
+use Rattle.std.specs.Prelude.{Bool, ◌&&◌, ◌||◌, List, [], ◌∷◌, ◌++◌, ℕ, zero, suc, ◌+◌, ◌-◌, ◌*◌, ◌/◌, ◌%◌, nat_le, nat_lt, nat_eq, length, get_or, Option, Some, None}
 use Rattle.lists.specs.Basics.{when◌then◌else◌, require, every, table}
 use Rattle.protocol.specs.Refusals.{number_of}
 use Rattle.protocol.specs.Outcomes.{Outcome}
@@ -32,12 +32,16 @@ number_after v (d ∷ digits) = number_after (v * 16 + digit_value d) digits
 abbrev pub number : List ℕ → ℕ
 number digits = number_after 0 digits
 
+-- So many bytes, from a place of the line on. One that the line does not have is 0, which counts as the digit 0.
+abbrev pub bytes_at : List ℕ → ℕ → ℕ → List ℕ
+bytes_at l at n = table n (λ i. get_or l (at + i) 0)
+
 -- The numbers that 2 and 8 digits are, from a place of the line on.
 abbrev pub read2 : List ℕ → ℕ → ℕ
-read2 l at = number (take 2 (drop at l))
+read2 l at = number (bytes_at l at 2)
 
 abbrev pub read8 : List ℕ → ℕ → ℕ
-read8 l at = number (take 8 (drop at l))
+read8 l at = number (bytes_at l at 8)
 
 -- '`F0` and identifiers of 8 digits found a ring': so many digits follow F0.
 unfoldable pub founding : ℕ → Option Frame

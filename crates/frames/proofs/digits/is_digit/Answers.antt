@@ -5,4 +5,4 @@ use Rattle.frames.proofs.digits.is_digit.Goals as goal
 
 pub returns : goal.returns
 unfolding is_digit
-returns c = refl
+returns c = rw c.is_ascii_digit.ensures.value refl
