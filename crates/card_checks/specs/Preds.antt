@@ -1,11 +1,11 @@
 -- Reaches out of the record: the gaps back to the preds of the members, where these are members too and go round the circle just once. Assumes nothing.
-use Rattle.std.specs.Prelude.{◌≡◌, refl, Bool, List, ℕ, ◌+◌, ◌%◌, ◌≤◌, ◌<◌, nat_eq, length, get_or}
-use Rattle.std.proofs.Common.{sym, ◌∙◌, ap₂, subst, mod-lt, arith, eqb→eq}
+use Rattle.std.specs.Prelude.{◌≡◌, refl, Bool, not, ◌||◌, List, ℕ, ◌+◌, ◌%◌, ◌≤◌, ◌<◌, nat_eq, length, get_or}
+use Rattle.std.proofs.Common.{sym, ◌∙◌, ap, ap₂, subst, mod-lt, arith, eqb→eq}
 use Rattle.std.proofs.Math.Decide.{dec_lt}
 use Rattle.std.proofs.Math.ListN.{get_or-eq_default}
 use Rattle.lists.specs.Basics.{when◌then◌else◌}
 use Rattle.lists.specs.Choice.{choose, passes}
-use Rattle.lists.specs.Merge.{merged, merged_each}
+use Rattle.lists.specs.Merge.{merged, merged_each, failure_test, when_test}
 use Rattle.lists.specs.Tests.{→eqb}
 use Rattle.protocol.specs.Record.{round, most_nodes, row_start}
 use Rattle.layout.specs.Owners.{Names}
@@ -31,6 +31,13 @@ Reaches names marks n reaches =
 -- 1 where the pred of a member is no member.
 abbrev pub strange : List ℕ → List ℕ → ℕ → ℕ
 strange w marks h = when nat_eq (get_or marks h 0) 1 then (when nat_eq (get_or marks (pred_of w h) 0) 1 then 0 else 1) else 0
+
+-- as the code asks it: h is no member, or its pred is one
+pub strange_test : (w marks : List ℕ) (h : ℕ) → nat_eq (strange w marks h) 0 ≡ (not (nat_eq (get_or marks h 0) 1) || nat_eq (get_or marks (pred_of w h) 0) 1)
+strange_test w marks h =
+    let own = nat_eq (get_or marks (pred_of w h) 0) 1 in
+    let member = nat_eq (get_or marks h 0) 1 in
+    when_test member (when own then 0 else 1) ∙ ap (λ z. not member || z) (failure_test own)
 
 -- What h adds to the circle.
 abbrev pub arc_back : List ℕ → List ℕ → List ℕ → ℕ → ℕ

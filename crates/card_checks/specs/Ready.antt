@@ -1,12 +1,15 @@
 -- The questions that the calls with cards begin with, and what is known after them. Assumes nothing.
-use Rattle.std.specs.Prelude.{◌≡◌, true, false, List, ℕ, ◌≤◌, ◌<◌, length, get_or}
+use Rattle.std.specs.Prelude.{◌≡◌, refl, Bool, true, false, ◌&&◌, List, ℕ, ◌≤◌, ◌<◌, nat_le, length, get_or}
 use Rattle.std.proofs.Common.{◌∙◌, arith, le-leb}
 use Rattle.std.proofs.lemmas.Bool.{lt-leb}
+use Rattle.std.proofs.Math.Facts.{leb_yes}
+use Rattle.lists.specs.Basics.{require}
 use Rattle.lists.specs.Choice.{on_yes, on_no}
-use Rattle.lists.specs.Tests.{true_T}
+use Rattle.lists.specs.Tests.{and_left, and_right, true_T}
 use Rattle.protocol.specs.declared.refusal.Refusal.TheVariants.{NotWellFormed, RecordShort}
 use Rattle.protocol.specs.Record.{round, most_nodes, record_size, read}
 use Rattle.protocol.specs.WellFormed.{well_formed, identifiers}
+use Rattle.protocol.specs.Calls.{long}
 use Rattle.protocol.specs.Cards.{book_size, read_book, book_ok, CardsCalled, unchanged, both_long, on_both}
 use Rattle.layout.specs.Form.{Valid, valid_form}
 use Rattle.layout.specs.Owners.{Names}
@@ -27,6 +30,20 @@ module _ (w k : List ℕ) (rest : CardsCalled) where
   pub long_rest : record_size ≤ length w → book_size ≤ length k → both_long w k rest ≡ rest
   unfolding both_long
   long_rest l m = on_yes _ _ _ (long_yes w l) ∙ on_yes _ _ _ (le-leb book_size (length k) m)
+
+-- Question 1 as one test of both lengths: what it refuses, and what is known where it passes.
+pub both_short : (w k : List ℕ) (rest : CardsCalled) → (nat_le record_size (length w) && nat_le book_size (length k)) ≡ false → both_long w k rest ≡ unchanged w k RecordShort
+unfolding both_long long
+both_short w k rest = either (nat_le record_size (length w)) (nat_le book_size (length k))
+  where
+    either : (a b : Bool) → (a && b) ≡ false → require a (unchanged w k RecordShort) (require b (unchanged w k RecordShort) rest) ≡ unchanged w k RecordShort
+    either true b e = on_yes _ _ _ refl ∙ on_no _ _ _ e
+    either false b e = on_no _ _ _ refl
+
+pub lengths : (w k : List ℕ) → (nat_le record_size (length w) && nat_le book_size (length k)) ≡ true → (record_size ≤ length w) × (book_size ≤ length k)
+lengths w k e =
+    let t = true_T _ e in
+    let a = nat_le record_size (length w) in (leb_yes (and_left a _ t), leb_yes (and_right a _ t))
 
 module _ (w k : List ℕ) (rest : CardsCalled) where
   pub both_1 : length w < record_size → on_both w k rest ≡ unchanged w k RecordShort

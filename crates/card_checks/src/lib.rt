@@ -12,7 +12,7 @@ mod members;
 mod owners;
 mod preds;
 
-pub use checked::checked_names;
+pub use checked::{both_long, checked_names};
 pub use content::book_ok;
 pub use marks::is_marked_besides;
 pub use owners::{names_of, nearest, reach};

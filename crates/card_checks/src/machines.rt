@@ -7,6 +7,7 @@ use crate::buckets::by_buckets;
 use crate::cards::Cards;
 use crate::digits::by_digits;
 
+// (A match: with `unwrap_or_else` the proof of what is returned did not close, since nothing is known there of what the closure gives.)
 pub(crate) fn machines_differ(cards: &Cards) -> bool
     ensures { result ≡ distinct (table cards.now.count (machine_of cards.now.words.now)) }
 {

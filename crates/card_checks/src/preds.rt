@@ -5,7 +5,7 @@ ghost use Rattle.card_checks.specs.Preds.{Reaches};
 
 use crate::members::Members;
 use crate::owners::gap;
-use lists::{failure, pick};
+use lists::pick;
 use protocol::form::{ROW_WORDS, ROWS_AT};
 
 // The place of pred in a row.
@@ -17,23 +17,23 @@ fn by_preds(members: &Members) -> Option<[u32; 64]>
     ensures { IfSome result (Reaches members.now.names.now members.now.marks.now members.now.count) }
 {
     let mut reaches = [0u32; 64];
-    let mut strangers: u32 = 0;
+    let mut ok = true;
     let mut circle: u64 = 0;
     for h in 0..members.count {
         let pred = (members.record[ROWS_AT + ROW_WORDS * h + PRED_AT] % 64) as usize;
         let member = members.marks[h] == 1;
         let far = gap(members.names[pred], members.names[h]);
-        strangers |= pick(member, failure(members.marks[pred] == 1), 0);
+        ok &= !member | (members.marks[pred] == 1);
         circle += pick(member, u64::from(far) + 1, 0);
         reaches[h] = far;
     }
-    if (strangers == 0) & (circle == 4294967296) {
+    if ok & (circle == 4294967296) {
         return Some(reaches);
     }
     None
 }
 
-// The reach of each member.
+// The reach of each member. (A match, as in machines.rt.)
 pub(crate) fn member_reaches(members: &Members) -> [u32; 64]
     ensures { Reaches members.now.names.now members.now.marks.now members.now.count result }
 {

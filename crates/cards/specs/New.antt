@@ -1,5 +1,5 @@
 -- The fresh call with cards, in the words' terms. Assumes nothing.
-use Rattle.std.specs.Prelude.{◌≡◌, refl, List, [], ◌∷◌, ◌++◌, ℕ, ◌+◌, ◌≤◌, ◌<◌, length, set, drop, replicate}
+use Rattle.std.specs.Prelude.{◌≡◌, refl, false, ◌&&◌, List, [], ◌∷◌, ◌++◌, ℕ, ◌+◌, ◌≤◌, ◌<◌, nat_le, length, set, drop, replicate}
 use Rattle.std.proofs.Common.{sym, ◌∙◌, one-add, arith}
 use Rattle.std.proofs.Math.Path.{ap}
 use Rattle.std.proofs.lemmas.List.{replicate-append-replicate, length-replicate}
@@ -13,7 +13,7 @@ use Rattle.protocol.specs.Calls.{written, fresh_by_call}
 use Rattle.protocol.specs.Cards.{book_size, Book, book_words, unchanged, new_book, put_book, with_new_book, fresh_by_cards}
 use Rattle.layout.specs.Questions.{fresh_cases}
 use Rattle.cardlayout.specs.Books.{mark_is}
-use Rattle.card_checks.specs.Ready.{long_1, long_cards_1, long_rest}
+use Rattle.card_checks.specs.Ready.{long_1, long_cards_1, long_rest, both_short}
 use Rattle.cards.specs.Asked.{refused_answered}
 
 -- What a fresh call leaves where it refuses, and where it answers.
@@ -36,6 +36,11 @@ module _ (w k ids : List ℕ) (founder : ℕ) where
   pub new_cards_1 : record_size ≤ length w → length k < book_size → fresh_by_cards w k ids founder ≡ unchanged w k RecordShort
   unfolding fresh_by_cards
   new_cards_1 l m = long_cards_1 w k _ l m
+
+  -- both lengths asked at once
+  pub new_short : (nat_le record_size (length w) && nat_le book_size (length k)) ≡ false → fresh_by_cards w k ids founder ≡ unchanged w k RecordShort
+  unfolding fresh_by_cards
+  new_short e = both_short w k _ e
 
   module _ (l : record_size ≤ length w) (m : book_size ≤ length k) (o : Outcome) (slice : List ℕ) (e : fresh_by_call w ids founder ≡ record { outcome = o; slice = slice }) where
     rest : fresh_by_cards w k ids founder ≡ with_new_book w k founder slice o

@@ -4,8 +4,9 @@ ghost use Rattle.protocol.specs.Record.{most_nodes};
 ghost use Rattle.protocol.specs.Fresh.{founder_of};
 ghost use Rattle.protocol.specs.Cards.{book_size, new_book, put_book, fresh_by_cards};
 
+use card_checks::both_long;
 use founding::founding_node;
-use protocol::form::{BOOK_WORDS, MARKS_AT, RECORD_WORDS};
+use protocol::form::{BOOK_WORDS, MARKS_AT};
 use protocol::{Answer, Refusal};
 
 // The words of a new book, written over whatever the slice came with.
@@ -17,8 +18,8 @@ fn write_new(k: &mut [u32], node: usize)
     k[MARKS_AT + node] = 1;
 }
 
-// A ring founded with its card slice, whoever is to found it. Fresh asks all its questions before it writes, so a refusal changes no word of either. (Its
-// question 1 stands here, and not in `checked_names`: it asks nothing of the words that it writes over.)
+// A ring founded with its card slice, whoever is to found it. Fresh asks all its questions before it writes, so a refusal changes no word of either. (Of
+// what `checked_names` asks it asks question 1 alone: of the words that it writes over it asks nothing.)
 pub fn fresh(
     w: &mut [u32],
     k: &mut [u32],
@@ -27,10 +28,7 @@ pub fn fresh(
 ) -> Result<Answer, Refusal>
     ensures { fresh_by_cards w.old k.old identifiers.now (founder_of founder identifiers.now) ≡ record { outcome = result; slice = w.new; cards = k.new } }
 {
-    if w.len() < RECORD_WORDS {
-        return Err(Refusal::RecordShort);
-    }
-    if k.len() < BOOK_WORDS {
+    if !both_long(w, k) {
         return Err(Refusal::RecordShort);
     }
     let a = founding::fresh(w, identifiers, founder)?;

@@ -7,6 +7,9 @@ use Rattle.std.proofs.Common.{nat_lt}
 use borrow.Author.Tests.{lt-ltb, le-ltb, eq-eqb, ne_eqb}
 use Rattle.lists.specs.Choice.{on_yes, on_no}
 use Rattle.lists.specs.Tests.{and_left, and_right, true_T}
+use Rattle.lists.specs.Basics.{require}
+use Rattle.protocol.specs.declared.Row.{Row}
+use Rattle.protocol.specs.declared.Message.{Message}
 use Rattle.protocol.specs.declared.Answer.TheVariants.{Quiet}
 use Rattle.protocol.specs.declared.Route.TheVariants.{To}
 use Rattle.protocol.specs.declared.Decision.TheVariants.{Send}
@@ -16,8 +19,12 @@ use Rattle.protocol.specs.declared.refusal.Refusal.TheVariants.{LastHub, Locked,
 use Rattle.protocol.specs.Record.{most_messages, State, count, count_in, messages_in, asked_in, row, identifier, read, sent, ticketed}
 use Rattle.protocol.specs.Routing.{in_ring, onward}
 use Rattle.protocol.specs.Kinds.{question, note, with_state, with_lock}
-use Rattle.protocol.specs.Step.{refused, accepted, conclude, room, asking, ask, join, leave, oldest, delivered, deliver}
+use Rattle.protocol.specs.Step.{Result, refused, accepted, conclude, room, asking, ask, join, leave, oldest, delivered, deliver}
 use Rattle.layout.specs.Words.{count_of_read, messages_of_read}
+
+-- How join and leave end: hub x's row becomes h and the message goes last, if there is room for it.
+unfoldable pub sending : State → ℕ → Row → Message → Result
+sending s x h u = require (room s) (refused MessagesFull) (conclude s x (Ok (Send h u Quiet)))
 
 module _ (w : List ℕ) where
   abbrev s : State
@@ -88,6 +95,16 @@ module _ (w : List ℕ) where
     unfolding asking read
     asking_sent z l = on_yes _ _ _ (room_yes l)
 
+  -- the end of join and of leave
+  module _ (x : ℕ) (h : Row) (u : Message) where
+    pub sending_11 : most_messages ≤ m → sending s x h u ≡ refused MessagesFull
+    unfolding sending
+    sending_11 l = on_no _ _ _ (room_no l)
+
+    pub sending_sent : m < most_messages → sending s x h u ≡ conclude s x (Ok (Send h u Quiet))
+    unfolding sending
+    sending_sent l = on_yes _ _ _ (room_yes l)
+
   -- join
   module _ (x y : ℕ) where
     pub join_4 : (nat_lt x n && nat_lt y n) ≡ false → join s x y ≡ refused NoHub
@@ -102,14 +119,17 @@ module _ (w : List ℕ) where
     unfolding join
     join_5 t e r = on_yes _ _ _ (nodes_are x y true t) ∙ on_yes _ _ _ (eq-eqb _ 0 e) ∙ on_no _ _ _ r
 
+    pub join_sending : (nat_lt x n && nat_lt y n) ≡ true → (row s x).state ≡ OUTSIDE → in_ring (row s y) ≡ true
+        → join s x y ≡ sending s x (with_lock (with_state (row s x) 1) 1) (note JOIN x y x)
+    unfolding join sending
+    join_sending t e r = on_yes _ _ _ (nodes_are x y true t) ∙ on_yes _ _ _ (eq-eqb _ 0 e) ∙ on_yes _ _ _ r
+
     pub join_11 : (nat_lt x n && nat_lt y n) ≡ true → (row s x).state ≡ OUTSIDE → in_ring (row s y) ≡ true → most_messages ≤ m → join s x y ≡ refused MessagesFull
-    unfolding join
-    join_11 t e r l = on_yes _ _ _ (nodes_are x y true t) ∙ on_yes _ _ _ (eq-eqb _ 0 e) ∙ on_yes _ _ _ r ∙ on_no _ _ _ (room_no l)
+    join_11 t e r l = join_sending t e r ∙ sending_11 x _ _ l
 
     pub join_sent : (nat_lt x n && nat_lt y n) ≡ true → (row s x).state ≡ OUTSIDE → in_ring (row s y) ≡ true → m < most_messages
         → join s x y ≡ conclude s x (Ok (Send (with_lock (with_state (row s x) 1) 1) (note JOIN x y x) Quiet))
-    unfolding join
-    join_sent t e r l = on_yes _ _ _ (nodes_are x y true t) ∙ on_yes _ _ _ (eq-eqb _ 0 e) ∙ on_yes _ _ _ r ∙ on_yes _ _ _ (room_yes l)
+    join_sent t e r l = join_sending t e r ∙ sending_sent x _ _ l
 
   -- leave
   module _ (x : ℕ) where
@@ -129,16 +149,18 @@ module _ (w : List ℕ) where
     unfolding leave
     leave_8 l r k e = on_yes _ _ _ (node_yes x l) ∙ on_yes _ _ _ r ∙ on_yes _ _ _ (eq-eqb _ 0 k) ∙ on_no _ _ _ (ap not (eq-eqb _ x e))
 
+    pub leave_sending : x < n → in_ring (row s x) ≡ true → (row s x).lock ≡ 0 → ((row s x).succ ≡ x → ⊥)
+        → leave s x ≡ sending s x (with_lock (with_state (row s x) 3) 1) (note LEAVEREQ x (row s x).succ 0)
+    unfolding leave sending
+    leave_sending l r k e =
+        on_yes _ _ _ (node_yes x l) ∙ on_yes _ _ _ r ∙ on_yes _ _ _ (eq-eqb _ 0 k) ∙ on_yes _ _ _ (ap not (ne_eqb _ x e))
+
     pub leave_11 : x < n → in_ring (row s x) ≡ true → (row s x).lock ≡ 0 → ((row s x).succ ≡ x → ⊥) → most_messages ≤ m → leave s x ≡ refused MessagesFull
-    unfolding leave
-    leave_11 l r k e f =
-        on_yes _ _ _ (node_yes x l) ∙ on_yes _ _ _ r ∙ on_yes _ _ _ (eq-eqb _ 0 k) ∙ on_yes _ _ _ (ap not (ne_eqb _ x e)) ∙ on_no _ _ _ (room_no f)
+    leave_11 l r k e f = leave_sending l r k e ∙ sending_11 x _ _ f
 
     pub leave_sent : x < n → in_ring (row s x) ≡ true → (row s x).lock ≡ 0 → ((row s x).succ ≡ x → ⊥) → m < most_messages
         → leave s x ≡ conclude s x (Ok (Send (with_lock (with_state (row s x) 3) 1) (note LEAVEREQ x (row s x).succ 0) Quiet))
-    unfolding leave
-    leave_sent l r k e f =
-        on_yes _ _ _ (node_yes x l) ∙ on_yes _ _ _ r ∙ on_yes _ _ _ (eq-eqb _ 0 k) ∙ on_yes _ _ _ (ap not (ne_eqb _ x e)) ∙ on_yes _ _ _ (room_yes f)
+    leave_sent l r k e f = leave_sending l r k e ∙ sending_sent x _ _ f
 
   -- deliver
   module _ (x y : ℕ) where

@@ -1,15 +1,28 @@
 // 1 join, 2 leave, 3 deliver. (Each asks its own questions, in the document's order and with the number of each beside it, so that it can be held
 // against the document line by line; that some begin alike is not said once more elsewhere.)
-ghost use Rattle.std.specs.Prelude.{◌≡◌};
-ghost use Rattle.protocol.specs.Record.{read};
+ghost use Rattle.std.specs.Prelude.{◌≡◌, ◌<◌};
+ghost use Rattle.protocol.specs.Record.{count_in, read};
 ghost use Rattle.protocol.specs.Step.{join as join_spec, leave as leave_spec, deliver as deliver_spec};
 ghost use Rattle.protocol.specs.Calls.{written};
 ghost use Rattle.layout.specs.Form.{Valid};
+ghost use Rattle.steps.specs.Questions.{sending};
 
 use crate::apply::settle;
 use protocol::form::{MESSAGE_WORDS, MESSAGES_AT, MOST_MESSAGES};
-use protocol::{Answer, Decision, Refusal, kinds, states};
+use protocol::{Answer, Decision, Message, Refusal, Row, kinds, states};
 use routing::{in_ring, note};
+
+// How join and leave end: x's row becomes h and the message goes, if there is room for it ('m below 256? 11').
+fn sent(w: &mut [u32], x: u32, h: Row, told: Message) -> Result<Answer, Refusal>
+    requires { (Valid w.old) × (x < count_in w.old) }
+    ensures { written w.old (sending (read w.old) x h told) ≡ record { outcome = result; slice = w.new } }
+{
+    let m = w[2];
+    if m < MOST_MESSAGES {
+        return Ok(settle(w, m, x, Decision::Send(h, told, Answer::Quiet)));
+    }
+    Err(Refusal::MessagesFull)
+}
 
 // 'x becomes joining, locked; sends JOIN (a = x) to y.'
 pub(crate) fn join(w: &mut [u32], x: u32, y: u32) -> Result<Answer, Refusal>
@@ -17,29 +30,23 @@ pub(crate) fn join(w: &mut [u32], x: u32, y: u32) -> Result<Answer, Refusal>
     ensures { written w.old (join_spec (read w.old) x y) ≡ record { outcome = result; slice = w.new } }
 {
     let n = w[1];
-    let m = w[2];
     let nodes = (x < n) & (y < n);
     if !nodes {
         return Err(Refusal::NoHub);
     }
-    let mut h = record::row_of(w, x);
+    let h = record::row_of(w, x);
     if h.state != states::OUTSIDE {
         return Err(Refusal::NotOutside);
     }
     if !in_ring(record::row_of(w, y)) {
         return Err(Refusal::NotInRing);
     }
-    if m < MOST_MESSAGES {
-        h.state = states::JOINING;
-        h.lock = 1;
-        return Ok(settle(
-            w,
-            m,
-            x,
-            Decision::Send(h, note(kinds::JOIN, x, y, x), Answer::Quiet),
-        ));
-    }
-    Err(Refusal::MessagesFull)
+    let joining = Row {
+        state: states::JOINING,
+        lock: 1,
+        ..h
+    };
+    sent(w, x, joining, note(kinds::JOIN, x, y, x))
 }
 
 // 'x gets state 3, locked; sends LEAVEREQ to its succ.'
@@ -47,11 +54,10 @@ pub(crate) fn leave(w: &mut [u32], x: u32) -> Result<Answer, Refusal>
     requires { Valid w.old }
     ensures { written w.old (leave_spec (read w.old) x) ≡ record { outcome = result; slice = w.new } }
 {
-    let m = w[2];
     if w[1] <= x {
         return Err(Refusal::NoHub);
     }
-    let mut h = record::row_of(w, x);
+    let h = record::row_of(w, x);
     if !in_ring(h) {
         return Err(Refusal::NotInRing);
     }
@@ -61,17 +67,12 @@ pub(crate) fn leave(w: &mut [u32], x: u32) -> Result<Answer, Refusal>
     if h.succ == x {
         return Err(Refusal::LastHub);
     }
-    if m < MOST_MESSAGES {
-        h.state = states::WANTING_TO_LEAVE;
-        h.lock = 1;
-        return Ok(settle(
-            w,
-            m,
-            x,
-            Decision::Send(h, note(kinds::LEAVEREQ, x, h.succ, 0), Answer::Quiet),
-        ));
-    }
-    Err(Refusal::MessagesFull)
+    let leaving = Row {
+        state: states::WANTING_TO_LEAVE,
+        lock: 1,
+        ..h
+    };
+    sent(w, x, leaving, note(kinds::LEAVEREQ, x, h.succ, 0))
 }
 
 // 'the oldest message with that from and to', at its receiver.

@@ -1,15 +1,11 @@
 -- `join`: its questions in order, then the row and the JOIN message. Assumes nothing.
-use native.Mathlib.Omega.{arith}
-use Rattle.steps.specs.Settle.{settled, settled_is}
-use Rattle.steps.specs.Questions.{first_node, join_4, join_6, join_5, join_11, join_sent}
-use Rattle.protocol.specs.Record.{read, row, messages_in}
+use Rattle.steps.specs.Questions.{first_node, sending, join_4, join_6, join_5, join_sending}
+use Rattle.protocol.specs.Record.{read}
 use Rattle.protocol.specs.Routing.{in_ring}
 use Rattle.protocol.specs.Kinds.{note, with_state, with_lock}
 use Rattle.protocol.specs.Names.{JOIN}
-use Rattle.protocol.specs.declared.Decision.TheVariants.{Send}
-use Rattle.protocol.specs.declared.Answer.TheVariants.{Quiet}
 use Rattle.protocol.specs.Calls.{written}
-use mathlib.Core.Path.{◌≡◌, ◌∙◌, ap, sym}
+use mathlib.Core.Path.{◌∙◌, ap, sym}
 use Rattle.steps.proofs.commands.join.Goals as goal
 
 pub returns-then-not-nodes : goal.returns-then-not-nodes
@@ -33,33 +29,18 @@ returns-then-not-in_ring c =
     (join_5 a.w.now a.x a.y (c.if-not-nodes.false) (sym (ap (λ h. h.state) c.row_of-h.ensures) ∙ c.if-h-ne-OUTSIDE.false)
     (ap in_ring (sym c.row_of.ensures) ∙ sym c.in_ring.ensures ∙ c.if-not-in_ring.true))
 
-pub settle-requires : goal.settle-requires
-settle-requires c =
-    let a = c.args in
-    let v = c.requires in
-    let l = first_node a.w.now a.x a.y (c.if-not-nodes.false) in
-    (c.if-m-lt-MOST_MESSAGES.true, omega (arith, v.nodes), v.long)
+pub sent-requires : goal.sent-requires
+sent-requires c = let a = c.args in (c.requires, first_node a.w.now a.x a.y (c.if-not-nodes.false))
 
-pub returns-then-m-lt-MOST_MESSAGES : goal.returns-then-m-lt-MOST_MESSAGES
-returns-then-m-lt-MOST_MESSAGES c =
+pub returns : goal.returns
+returns c =
     let a = c.args in
     let w = a.w.now in
     let h = c.row_of-h in
-    let nodes = c.if-not-nodes.false in
-    let room = c.if-m-lt-MOST_MESSAGES.true in
-    let sends : Send (with_lock (with_state h.result 1) 1) c.note.result Quiet
-    ≡ Send (with_lock (with_state (row (read w) a.x) 1) 1) (note JOIN a.x a.y a.x) Quiet =
-    ap (λ u. Send (with_lock (with_state h.result 1) 1) u Quiet) c.note.ensures
-    ∙ ap (λ z. Send (with_lock (with_state z 1) 1) (note JOIN a.x a.y a.x) Quiet) h.ensures in
+    let state_is = sym (ap (λ z. z.state) h.ensures) ∙ c.if-h-ne-OUTSIDE.false in
+    let ring = ap in_ring (sym c.row_of.ensures) ∙ sym c.in_ring.ensures ∙ c.if-not-in_ring.false in
     ap (written w)
-    (join_sent w a.x a.y nodes (sym (ap (λ h. h.state) h.ensures) ∙ c.if-h-ne-OUTSIDE.false) (ap in_ring (sym c.row_of.ensures) ∙ sym c.in_ring.ensures ∙ c.if-not-in_ring.false) room)
-    ∙ sym (ap (settled w (messages_in w) a.x) sends ∙ settled_is w c.requires a.x _ (first_node w a.x a.y nodes) room)
-    ∙ c.settle.ensures
-
-pub returns : goal.returns
-unfolding written
-returns c =
-    let a = c.args in
-    ap (written a.w.now)
-    (join_11 a.w.now a.x a.y (c.if-not-nodes.false) (sym (ap (λ h. h.state) c.row_of-h.ensures) ∙ c.if-h-ne-OUTSIDE.false)
-    (ap in_ring (sym c.row_of.ensures) ∙ sym c.in_ring.ensures ∙ c.if-not-in_ring.false) c.if-m-lt-MOST_MESSAGES.false)
+    (join_sending w a.x a.y c.if-not-nodes.false state_is ring
+    ∙ ap (λ z. sending (read w) a.x (with_lock (with_state z 1) 1) (note JOIN a.x a.y a.x)) (sym h.ensures)
+    ∙ ap (sending (read w) a.x (with_lock (with_state h.result 1) 1)) (sym c.note.ensures))
+    ∙ c.sent.ensures

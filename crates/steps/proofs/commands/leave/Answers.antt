@@ -1,14 +1,11 @@
 -- `leave`: its questions in order, then the row and the LEAVEREQ message. Assumes nothing.
-use Rattle.steps.specs.Settle.{settled, settled_is}
-use Rattle.steps.specs.Questions.{leave_4, leave_5, leave_7, leave_8, leave_11, leave_sent}
-use Rattle.protocol.specs.Record.{read, row, messages_in}
+use Rattle.steps.specs.Questions.{sending, leave_4, leave_5, leave_7, leave_8, leave_sending}
+use Rattle.protocol.specs.Record.{read}
 use Rattle.protocol.specs.Routing.{in_ring}
 use Rattle.protocol.specs.Kinds.{note, with_state, with_lock}
 use Rattle.protocol.specs.Names.{LEAVEREQ}
-use Rattle.protocol.specs.declared.Decision.TheVariants.{Send}
-use Rattle.protocol.specs.declared.Answer.TheVariants.{Quiet}
 use Rattle.protocol.specs.Calls.{written}
-use mathlib.Core.Path.{◌≡◌, ◌∙◌, ap, sym}
+use mathlib.Core.Path.{◌∙◌, ap, sym}
 use Rattle.steps.proofs.commands.leave.Goals as goal
 
 pub returns-then-w-x : goal.returns-then-w-x
@@ -41,27 +38,18 @@ returns-then-h-x c =
     let free = sym (ap (λ z. z.lock) h.ensures) ∙ c.if-h-ne0.false in
     ap (written a.w.now) (leave_8 a.w.now a.x c.if-w-x.false ring free (sym (ap (λ z. z.succ) h.ensures) ∙ c.if-h-x.true))
 
-pub returns-then-m-lt-MOST_MESSAGES : goal.returns-then-m-lt-MOST_MESSAGES
-returns-then-m-lt-MOST_MESSAGES c =
+pub sent-requires : goal.sent-requires
+sent-requires c = (c.requires, c.if-w-x.false)
+
+pub returns : goal.returns
+returns c =
     let a = c.args in
     let w = a.w.now in
     let h = c.row_of-h in
     let ring = ap in_ring (sym h.ensures) ∙ sym c.in_ring.ensures ∙ c.if-not-in_ring.false in
     let free = sym (ap (λ z. z.lock) h.ensures) ∙ c.if-h-ne0.false in
-    let room = c.if-m-lt-MOST_MESSAGES.true in
-    let sends : Send (with_lock (with_state h.result 3) 1) c.note.result Quiet
-    ≡ Send (with_lock (with_state (row (read w) a.x) 3) 1) (note LEAVEREQ a.x (row (read w) a.x).succ 0) Quiet =
-    ap (λ u. Send (with_lock (with_state h.result 3) 1) u Quiet) c.note.ensures
-    ∙ ap (λ z. Send (with_lock (with_state z 3) 1) (note LEAVEREQ a.x z.succ 0) Quiet) h.ensures in
-    ap (written w) (leave_sent w a.x c.if-w-x.false ring free (λ e. c.if-h-x.false (ap (λ z. z.succ) h.ensures ∙ e)) room)
-    ∙ sym (ap (settled w (messages_in w) a.x) sends ∙ settled_is w c.requires a.x _ c.if-w-x.false room)
-    ∙ c.settle.ensures
-
-pub returns : goal.returns
-unfolding written
-returns c =
-    let a = c.args in
-    let h = c.row_of-h in
-    let ring = ap in_ring (sym h.ensures) ∙ sym c.in_ring.ensures ∙ c.if-not-in_ring.false in
-    let free = sym (ap (λ z. z.lock) h.ensures) ∙ c.if-h-ne0.false in
-    ap (written a.w.now) (leave_11 a.w.now a.x c.if-w-x.false ring free (λ e. c.if-h-x.false (ap (λ z. z.succ) h.ensures ∙ e)) c.if-m-lt-MOST_MESSAGES.false)
+    ap (written w)
+    (leave_sending w a.x c.if-w-x.false ring free (λ e. c.if-h-x.false (ap (λ z. z.succ) h.ensures ∙ e))
+    ∙ ap (λ z. sending (read w) a.x (with_lock (with_state z 3) 1) (note LEAVEREQ a.x z.succ 0)) (sym h.ensures)
+    ∙ ap (sending (read w) a.x (with_lock (with_state h.result 3) 1)) (sym c.note.ensures))
+    ∙ c.sent.ensures
