@@ -24,7 +24,7 @@ pub(crate) fn marks_ok(k: &[u32], n: u32) -> bool
     all_bits(marks) & !all_zero(marks) & all_zero(&k[end..CARDS_AT])
 }
 
-// Whether a node other than h is marked. (A fold, since `any` would stop at the first.)
+// Whether a node other than h is marked. (A fold: `any` would stop at the first, and so not be vectorised.)
 pub fn is_marked_besides(marks: &[u32], h: usize) -> bool
     ensures { result ≡ not (every (λ x. nat_eq x 0) (set marks.now h 0)) }
 {

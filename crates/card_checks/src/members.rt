@@ -1,6 +1,7 @@
 // The nodes of a record beside their marks: the record's words, identifiers side by side, 0 behind the `count` nodes, and a mark for each member.
 // (All 64 identifiers and marks, and no slices of `count`: six bits of a word are always a place among them, so that the loops look up preds and hubs
-// without a branch that asks whether they are nodes.)
+// without a branch that asks whether they are nodes. The marks are a slice, and `each` says that it has 64 words: an array reference comes out of the
+// cards' words only by a conversion.)
 ghost use Rattle.std.specs.Prelude.{◌≡◌, ℕ, ◌+◌, ◌≤◌, ◌<◌, length, get_or};
 ghost use Rattle.lists.specs.Basics.{every, table};
 ghost use Rattle.protocol.specs.Record.{most_nodes, record_size};

@@ -24,7 +24,7 @@ pub(crate) fn gap(a: u32, b: u32) -> u32
 }
 
 // The least of what `far` says of the marked nodes' identifiers, and of 2^32 - 1. (Nodes without a mark have 2^32 - 1, so that the loop has no
-// branch, and is vectorised. Slices of any lengths, and no struct of both, since callers may lend such.)
+// branch, and is vectorised. Two slices: a struct of both as the parameter of `reach` and `nearest` is a narrower type, which asks more of callers.)
 fn least<F: Fn(u32) -> u32>(names: &[u32], marks: &[u32], far: F) -> u32
     requires callable { F.IsAlwaysCallable far }
     requires long { length marks.now ≤ length names.now }

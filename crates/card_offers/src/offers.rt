@@ -9,7 +9,8 @@ use card_checks::{checked_names, nearest};
 use protocol::form::{CARD_WORDS, CARDS_AT, MARKS_AT, MOST_CARDS};
 use protocol::{Answer, Card, Refusal};
 
-// The place of the card of a machine. (What is asked of k stands in each contract, as for a record: the slice is the caller's, of any length.)
+// The place of the card of a machine. (What is asked of k stands in each contract, as for a record: the slice that `offer` is lent may be of any
+// length, and an array reference or a struct in its place is a narrower type, which asks more of callers.)
 fn find_card(k: &[u32], machine: u32) -> Option<u32>
     requires { (cards_in k.now ≤ most_cards) × (book_size ≤ length k.now) }
     ensures { MatchOption result (first (λ j. nat_eq (get_or k.now (card_start j) 0) machine) (cards_in k.now) ≡ cards_in k.now) (λ j. (j ≡ first (λ i. nat_eq (get_or k.now (card_start i) 0) machine) (cards_in k.now)) × (j < cards_in k.now)) }
@@ -17,6 +18,8 @@ fn find_card(k: &[u32], machine: u32) -> Option<u32>
     (0..k[0]).find(|j| k[CARDS_AT + CARD_WORDS * (*j as usize)] == machine)
 }
 
+// The card at place j. (record's `push` and `edit_row` copy in the same way: a function for it takes the slice, the place, N, a type that goes to N
+// words and a law of its From, which is longer than the line.)
 fn put_card(k: &mut [u32], j: u32, c: Card)
     requires { (j < most_cards) × (book_size ≤ length k.old) }
     ensures { k.new ≡ splice k.old (card_start j) (card_words c) }

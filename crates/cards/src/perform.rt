@@ -34,7 +34,8 @@ fn depart(
     Ok(Answer::Gone(h))
 }
 
-// What an answer does to the cards. w is the record as the step left it, `saved` its words as they came.
+// What an answer does to the cards. w is the record as the step left it, `saved` its words as they came. (w, k, names and saved are no struct: it
+// would be made in `perform` alone and taken apart in `follow` and `depart`, whose contracts speak of each by itself.)
 fn follow(
     w: &mut [u32],
     k: &mut [u32],

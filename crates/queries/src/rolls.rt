@@ -39,7 +39,8 @@ fn put_before(
 }
 
 // The roll from a node on, of at most so many nodes as are left, written from a place of the output on. It is written on the way back,
-// when it is known that the roll ends and that the output has room for it: a refusal writes nothing.
+// when it is known that the roll ends and that the output has room for it: a refusal writes nothing. (`output` and `at` are no struct: each call
+// lends the same output on and has a place of its own, so that the struct would be made anew at each.)
 fn roll(
     w: &[u32],
     start: u32,

@@ -7,7 +7,8 @@ ghost use Rattle.layout.specs.Edits.{pushed, removed};
 use protocol::Message;
 use protocol::form::{MESSAGE_WORDS, MESSAGES_AT};
 
-// The message whose first word is at a place. (Word by word: the array that a From would take comes out of a slice only by a conversion that can fail.)
+// The message whose first word is at a place. (Each word by its position: an array for a From comes out of the slice by a conversion and an
+// unwrap, which is longer.)
 pub fn message_at(w: &[u32], at: usize) -> Message
     requires { at + message_size ≤ length w.now }
     ensures { result ≡ message_from w.now at }

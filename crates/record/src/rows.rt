@@ -6,7 +6,7 @@ ghost use Rattle.layout.specs.Edits.{row_put};
 use protocol::form::{NONE, ROW_WORDS, ROWS_AT};
 use protocol::{Row, states};
 
-// The row whose first word is at a place. (Word by word, as message_at.)
+// The row whose first word is at a place. (Each word by its position, as in `message_at`.)
 pub fn row_at(w: &[u32], at: usize) -> Row
     requires { at + row_size ≤ length w.now }
     ensures { result ≡ row_from w.now at }
@@ -37,8 +37,8 @@ pub fn outside_row(identifier: u32) -> Row
     }
 }
 
-// The row of a node; a number that is no node's, such as 'none', counts as outside. (What is asked of w stands in each contract: w is lent by the
-// caller, of any length, and a struct around it would be made anew at each call.)
+// The row of a node; a number that is no node's, such as 'none', counts as outside. (What is asked of w stands in each contract: w is the
+// caller's slice, of any length, and an array reference or a struct in its place is a narrower type, which asks more of callers.)
 pub fn row_of(w: &[u32], node: u32) -> Row
     requires { (record_size ≤ length w.now) × (count_in w.now ≤ most_nodes) }
     ensures { result ≡ row (read w.now) node }

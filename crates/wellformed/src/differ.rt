@@ -3,7 +3,7 @@ ghost use Rattle.std.specs.Prelude.{◌≡◌, ◌&&◌, not, ◌+◌, ◌≤◌
 ghost use Rattle.lists.specs.Basics.{distinct};
 ghost use Rattle.lists.specs.Merge.{unlike_all, all_unlike};
 
-// Whether y is none of the four.
+// Whether y is none of the four. (Four numbers, here and below, and no array, since each is compared by itself.)
 fn is_none_of(a: u32, b: u32, c: u32, d: u32, y: u32) -> bool
     ensures { result ≡ unlike_all a b c d y }
 {
