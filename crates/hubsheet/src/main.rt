@@ -24,8 +24,8 @@ fn take_some(console: Console, held: &mut Held, input: &mut [u8]) -> Arrival
     arrival
 }
 
-// Whether the run goes on. At the end of the input the line is printed; where a read failed, which is told, nothing is. (Not one match with `take_some`,
-// whose contract says what the read did to what is held, by what it brought.)
+// Whether the run goes on. At the end of the input the line is printed; where a read failed, which is told, nothing is. (Not one match with
+// `take_some`, whose contract says what the read did to what is held, by what it brought.)
 fn goes_on(console: Console, arrival: Arrival, held: &mut Held) -> bool {
     match arrival {
         Arrival::Bytes(_) => true,
