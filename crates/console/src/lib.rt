@@ -7,8 +7,10 @@ mod leaving;
 mod reasons;
 mod retries;
 mod telling;
+mod turns;
 
 pub use arriving::Arrival;
+pub use turns::until;
 
 // A program's standard input and output, and its name, which stands before what it says on standard error.
 #[derive(Clone, Copy)]

@@ -1,5 +1,5 @@
 // What failed, and what was lost by it, on standard error. Where standard error fails too, nobody can be told.
-// (In pieces, since the name and the word are bytes, which have no Display.)
+// (In pieces, since the name and the word are bytes, which have no Display. The name is a public field, and `&str` would ask more of who sets it.)
 use crate::Console;
 use crate::reasons::{text_of, word};
 use std::io::{Error, Print};

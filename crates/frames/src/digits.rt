@@ -17,8 +17,8 @@ pub fn all_digits(line: &[u8]) -> bool
     line.iter().all(|b| is_digit(*b))
 }
 
-// A byte that is no digit counts as 0, so that any eight bytes give a number that fits. (The documents' rule, as it stands in its contract: the library's
-// `to_digit` takes lower case too.)
+// A byte that is no digit counts as 0, so that any eight bytes give a number that fits. (The documents' rule, as it stands in its contract: the
+// library's `to_digit` takes lower case too.)
 fn digit_value(b: u8) -> u32
     ensures { result ≡ digit_value b }
 {

@@ -10,7 +10,7 @@ ghost use Rattle.hubsheet.specs.Held.{Taken};
 
 use crate::frame::line_of;
 use crate::hubs::Held;
-use console::{Arrival, Console};
+use console::{Arrival, Console, until};
 
 // One read.
 fn take_some(console: Console, held: &mut Held, input: &mut [u8]) -> Arrival
@@ -24,8 +24,8 @@ fn take_some(console: Console, held: &mut Held, input: &mut [u8]) -> Arrival
     arrival
 }
 
-// Whether the run goes on. At the end of the input the line is printed; where a read failed, which is told, nothing is. (Not one match with `take_some`,
-// whose contract says what the read did to what is held, by what it brought.)
+// Whether the run goes on. At the end of the input the line is printed; where a read failed, which is told, nothing is. (Not one match with
+// `take_some`, whose contract says what the read did to what is held, by what it brought.)
 fn goes_on(console: Console, arrival: Arrival, held: &mut Held) -> bool {
     match arrival {
         Arrival::Bytes(_) => true,
@@ -38,15 +38,12 @@ fn goes_on(console: Console, arrival: Arrival, held: &mut Held) -> bool {
     }
 }
 
-// A proved loop has to end, and nothing says that the input does. No run uses up its turns.
 fn run(console: Console, input: &mut [u8]) {
     let mut held = Held::begun();
-    for _ in 0..u64::MAX {
+    until(|| {
         let arrival = take_some(console, &mut held, input);
-        if !goes_on(console, arrival, &mut held) {
-            return;
-        }
-    }
+        goes_on(console, arrival, &mut held)
+    });
 }
 
 fn main(rt: HostRuntime) {

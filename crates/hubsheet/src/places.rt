@@ -1,4 +1,5 @@
-// The place that a byte leads to, by the rules of sheets/specs/Reader.antt.
+// The place that a byte leads to, by the rules of sheets/specs/Reader.antt, a function for each. (`number` and `number_quoted` differ in two places
+// alone, and so do their rules there: one function with those for parameters would be read against neither.)
 ghost use Rattle.std.specs.Prelude.{◌≡◌};
 ghost use Rattle.sheets.specs.Reader.{unquoted as unquoted_spec, quoted as quoted_spec, closed as closed_spec, number as number_spec, digits as digits_spec, number_quoted as number_quoted_spec, row_end as row_end_spec, next as next_spec, effect as effect_spec, ending as ending_spec};
 ghost use Rattle.sheets.specs.declared.Place.TheVariants.{Start, NumberOpened, Return};

@@ -8,10 +8,9 @@ mod session;
 mod taking;
 mod waiting;
 
-use console::Console;
+use console::{Console, until};
 use taking::Desk;
 
-// A proved loop has to end, and nothing says that the input does: no run uses up its turns.
 fn main(rt: HostRuntime) {
     let console = Console {
         rt: &rt,
@@ -19,9 +18,5 @@ fn main(rt: HostRuntime) {
     };
     let mut desk = Desk::new();
     let mut input = [0u8; 8192];
-    for _ in 0..u64::MAX {
-        if !desk.take_some(console, &mut input) {
-            return;
-        }
-    }
+    until(|| desk.take_some(console, &mut input));
 }

@@ -26,6 +26,7 @@ impl Session {
         }
     }
 
+    // (`min`, since nothing is proved of what a line asks for, so nor of how many words are lent.)
     fn words(&self) -> &[u32] {
         &self.record[..self.lent.min(KEPT_WORDS)]
     }

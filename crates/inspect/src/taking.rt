@@ -36,7 +36,8 @@ impl Desk {
         console.send(text.as_slice())
     }
 
-    // Once an answer could not be written no further line is answered.
+    // Once an answer could not be written no further line is answered. (The loop of `stream::take_bytes`, which does not stop before the end. One
+    // method for both would take a closure, and a contract that says what it did at each line, and be longer than the two.)
     fn take_bytes(&mut self, console: Console, input: &[u8]) -> bool {
         let mut left = input;
         while let Some(rest) = self.line.gather(left) {

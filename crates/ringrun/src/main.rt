@@ -6,7 +6,7 @@ ghost use Rattle.std.specs.Prelude.{◌≡◌, [], replicate};
 ghost use Rattle.protocol.specs.Record.{record_size};
 ghost use Rattle.ringrun.specs.Turns.{turned};
 
-use console::{Arrival, Console};
+use console::{Arrival, Console, until};
 use protocol::form::RECORD_WORDS;
 use stream::{KEPT, finish, take_bytes};
 use texts::Text;
@@ -65,17 +65,13 @@ impl Run {
         }
     }
 
-    // A proved loop has to end, and nothing says that the input does: no run uses up its turns. (One loop for this program, `inspect` and `hubsheet`
-    // would take a trait with an invariant and two methods for what each of them does with a read, and be longer than the three.)
     fn run(&mut self, console: Console)
         requires { (self.old.record ≡ replicate record_size 0) × (self.old.line ≡ []) }
     {
-        for _ in 0..u64::MAX {
+        until(|| {
             let arrival = self.take_some(console);
-            if !self.goes_on(console, arrival) {
-                return;
-            }
-        }
+            self.goes_on(console, arrival)
+        });
     }
 }
 

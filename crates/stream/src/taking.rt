@@ -9,8 +9,8 @@ use texts::Text;
 // What is kept of a line: one byte more than a frame can have.
 pub const KEPT: usize = 515;
 
-// The bytes of one read: every line that ends in them is answered, and the answers are all that is held then, whatever was held before. Each byte can end
-// a line, and an answer has at most 25 bytes.
+// The bytes of one read: every line that ends in them is answered, and the answers are all that is held then, whatever was held before. Each byte can
+// end a line, and an answer has at most 25 bytes.
 pub fn take_bytes<const OUT: usize>(
     w: &mut [u32],
     line: &mut Text<KEPT>,
