@@ -11,7 +11,7 @@ use sheets::{Effect, Place};
 pub const PLACES: usize = 64;
 
 // Where the reader stands, the rows so far (65 for more than 64), the number that is being read, if it fits a word, and whether all numbers so far
-// fit one.
+// fit one, those of rows behind the 64th too, which are not kept.
 #[derive(Clone, Copy)]
 pub struct Hubs {
     pub place: Place,

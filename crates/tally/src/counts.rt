@@ -31,7 +31,7 @@ fn count_of(o: Result<Answer, Refusal>) -> u32
     }
 }
 
-// The tally with the count in place k changed. A number that no kind has changes none.
+// The tally with the count in place k changed. A number that no kind has changes none. (Nine fields and no array: each count is read by its name.)
 pub fn changed_at<F: Fn(u64) -> u64>(k: u32, t: Tally, change: F) -> Tally
     requires { F.IsAlwaysCallable change }
     ensures { (h : ℕ → ℕ) → ((n r : ℕ) → F.post change n r → r ≡ h n) → result ≡ changed_at k h t }
