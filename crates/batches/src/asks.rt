@@ -21,7 +21,8 @@ fn place_words(o: Result<Answer, Refusal>) -> [u32; PLACE_WORDS]
     }
 }
 
-// Number i asked, and its outcome put into its place. A refusal takes its place like an answer, and those behind it are still asked.
+// Number i asked, and its outcome put into its place. A refusal takes its place like an answer, and those behind it are still asked. (Record, node,
+// numbers and outcomes are four arguments: so they are lent, by callers in C too.)
 fn ask_one(w: &mut [u32], node: u32, numbers: &[u32], outcomes: &mut [u32], i: usize)
     requires { (Valid w.old) × (place_size * length numbers.now ≤ length outcomes.old) × (i < length numbers.now) }
     ensures { turn w.old node numbers.now outcomes.old i ≡ record { slice = w.new; output = outcomes.new } }

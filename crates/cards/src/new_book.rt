@@ -18,8 +18,8 @@ fn write_new(k: &mut [u32], node: usize)
     k[MARKS_AT + node] = 1;
 }
 
-// A ring founded with its card slice, whoever is to found it. Fresh asks all its questions before it writes, so a refusal changes no word of either. (Of
-// what `checked_names` asks it asks question 1 alone: of the words that it writes over it asks nothing.)
+// A ring founded with its card slice, whoever is to found it. Fresh asks all its questions before it writes, so a refusal changes no word of either.
+// (Of what `checked_names` asks it asks question 1 alone: of the words that it writes over it asks nothing.)
 pub fn fresh(
     w: &mut [u32],
     k: &mut [u32],

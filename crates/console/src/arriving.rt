@@ -5,7 +5,7 @@ use crate::Console;
 use std::io::Read;
 
 // What a read brought: so many bytes, at least one; the end of the input; or nothing more, since it failed. (Three ways, so neither an Option nor
-// a Result would say it.)
+// a Result would say it; and a count, since a slice of the block would keep it lent while the arrival is handed on.)
 #[derive(Clone, Copy)]
 pub enum Arrival {
     Bytes(usize),

@@ -6,8 +6,8 @@ use std::io::Print;
 
 impl Console<'_> {
     // Writes what it can, and answers what is left: something where a write fails, which is told, or takes nothing. Its turns are as those of
-    // `receive`. (One loop for both was tried, over a closure that makes the call. The loop is proved; but a read changes the block which its closure
-    // holds, and that what the last call brought lies in `input` did not close.)
+    // `receive`. (One loop for both was tried, over a closure that makes the call. The loop was proved; but a read changes the block that its
+    // closure holds, and the proof of what the last call brought into `input` did not close.)
     fn write_on<'a>(&self, text: &'a [u8]) -> &'a [u8]
         ensures { length result.now ≤ length text.now }
     {

@@ -1,5 +1,6 @@
 // A match over the kinds 1 to 14 picks the handler. (No other kind is well formed.) No table of functions: the numbers are the document's, and a
-// JOIN looks at one row more than the others.
+// JOIN looks at one row more than the others. (p, h, g and m are no struct: it would be made in steps' deliver and opened in each rule, and
+// Kinds.antt, with which each rule is held equal, has them one by one. So it is with p and h in routing.)
 #![tactic(auto)]
 
 ghost use Rattle.std.specs.Prelude.{◌≡◌};

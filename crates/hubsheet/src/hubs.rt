@@ -20,7 +20,7 @@ pub struct Hubs {
     pub fits: bool,
 }
 
-// A figure more.
+// A figure more. (sheets' digit_value gives a usize, which goes into a u32 by a cast alone.)
 fn grown(value: Option<u32>, b: u8) -> Option<u32>
     ensures { result ≡ grown_spec value b }
 {
@@ -36,7 +36,8 @@ pub fn counted(rows: usize) -> usize
     rows.min(PLACES) + 1
 }
 
-// All that is held of a sheet: where it stands, and the identifiers of its rows.
+// All that is held of a sheet: where it stands, and the identifiers of its rows. (An array and the rows beside it, no slice: nothing may allocate, and
+// rows behind the 64th are counted too, up to 65.)
 #[derive(Drop)]
 pub struct Held {
     pub hubs: Hubs,

@@ -28,7 +28,8 @@ fn fill<T: Identifier>(text: &[u8], identifiers: &mut [T], names: &mut [u8])
     }
 }
 
-// All is asked before anything is written, so that a refusal writes nothing.
+// All is asked before anything is written, so that a refusal writes nothing. (Text, identifiers and names are three arguments: so they are lent, by
+// callers in C too.)
 fn read<T: Identifier>(
     text: &[u8],
     identifiers: &mut [T],

@@ -1,4 +1,4 @@
--- What the merged failures say: the parts of 'well formed'. Assumes nothing.
+-- What the tests, and merged failures, say: the parts of 'well formed'. Assumes nothing.
 use Rattle.std.specs.Prelude.{◌≡◌, refl, Bool, true, false, not, ◌&&◌, ◌||◌, List, [], ◌∷◌, ◌++◌, map, fold, zip, ℕ, ◌+◌, ◌-◌, ◌/◌, ◌≤◌, ◌<◌, T, nat_le, nat_lt, length, get_or, take, drop}
 use Rattle.std.proofs.Math.Path.{sym, ap, ap₂}
 use Rattle.std.proofs.Common.{◌∙◌, subst, arith, eqb→eq, length-drop, take-append-drop, length-take-le, take-add}

@@ -28,7 +28,8 @@ impl fmt::Display for Sent {
     }
 }
 
-// The words of all messages that wait, six of each: how many there are, how many of them are questions, and a line for each.
+// (A From of the six words would serve this place alone.) The words of all messages that wait, six of each: how many there are, how many of them are
+// questions, and a line for each.
 #[derive(Clone, Copy)]
 pub struct Waiting<'a>(pub &'a [u32]);
 

@@ -1,4 +1,4 @@
-// The names of document 01's numbers, as they are printed.
+// The names of document 01's numbers, as they are printed. (No other number comes here: what is shown is of records that passed question 2.)
 use protocol::form::NONE;
 use protocol::{kinds, states};
 use std::fmt;
