@@ -15,3 +15,10 @@ pub fn pick<T: Copy>(test: bool, a: T, b: T) -> T
     }
     b
 }
+
+// 1 where the test fails, so that failures can be merged by `|` and looked at once, at the end.
+pub fn failure(test: bool) -> u32
+    ensures { result ≡ (when test then 0 else 1) }
+{
+    pick(test, 0, 1)
+}

@@ -1,4 +1,4 @@
--- What the tests, and merged failures, say: the parts of 'well formed'. Assumes nothing.
+-- What the merged failures say: the parts of 'well formed'. Assumes nothing.
 use Rattle.std.specs.Prelude.{◌≡◌, refl, Bool, true, false, not, ◌&&◌, ◌||◌, List, [], ◌∷◌, ◌++◌, map, fold, zip, ℕ, ◌+◌, ◌-◌, ◌/◌, ◌≤◌, ◌<◌, T, nat_le, nat_lt, length, get_or, take, drop}
 use Rattle.std.proofs.Math.Path.{sym, ap, ap₂}
 use Rattle.std.proofs.Common.{◌∙◌, subst, arith, eqb→eq, length-drop, take-append-drop, length-take-le, take-add}
@@ -151,29 +151,6 @@ by_kind false false p h q b z a f =
 lookup_names_none : (k : ℕ) → T (nat_eq k LOOKUP) → T (not (names_node k))
 unfolding names_node
 lookup_names_none k t = subst (λ x. T (not (names_node x))) (sym (eqb→eq k LOOKUP t)) tt
-
-twice : (b : Bool) → b ≡ not (not b)
-twice true = refl
-twice false = refl
-
--- The fields of a message, by the tests that the code puts together.
-pub fields_test : (n asked : ℕ) (m : Message)
-    → (((not (nat_eq m.kind LOOKUP) || (nat_lt m.b asked && nat_le m.hops 65535)) && (not (names_node m.kind) || nat_lt m.a n)) && (nat_eq m.kind LOOKUP || ((nat_eq m.b 0 && nat_eq m.hops 0) && (names_node m.kind || nat_eq m.a 0))))
-    ≡ (a_ok n m && b_ok asked m && hops_ok m)
-unfolding a_ok b_ok hops_ok
-fields_test n asked m =
-    ap₂ (λ x y. ((not (nat_eq m.kind LOOKUP) || (nat_lt m.b asked && nat_le m.hops 65535)) && (not (names_node m.kind) || nat_lt m.a n)) && (x || ((nat_eq m.b 0 && nat_eq m.hops 0) && (y || nat_eq m.a 0)))) (twice (nat_eq m.kind LOOKUP)) (twice (names_node m.kind))
-    ∙ by_kind (nat_eq m.kind LOOKUP) (names_node m.kind) (nat_lt m.b asked) (nat_le m.hops 65535) (nat_lt m.a n) (nat_eq m.b 0) (nat_eq m.hops 0) (nat_eq m.a 0) (lookup_names_none m.kind)
-
--- A message's ends and fields, put together.
-pub message_test : (n asked : ℕ) (m : Message)
-    → ((nat_le 1 m.kind && nat_lt m.kind 15 && nat_lt m.from n && nat_lt m.to n) && (a_ok n m && b_ok asked m && hops_ok m)) ≡ message_ok n asked m
-unfolding message_ok
-message_test n asked m = go (nat_le 1 m.kind && nat_lt m.kind 15 && nat_lt m.from n && nat_lt m.to n)
-  where
-    go : (e : Bool) → (e && (a_ok n m && b_ok asked m && hops_ok m)) ≡ (e && a_ok n m && b_ok asked m && hops_ok m)
-    go true = refl
-    go false = refl
 
 pub fields_law : (n asked : ℕ) (m : Message) (below less mine lookup named others : ℕ)
     → below ≡ (when nat_lt m.b asked then 0 else 1) → less ≡ (when nat_lt m.a n then 0 else 1)

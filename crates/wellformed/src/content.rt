@@ -6,7 +6,7 @@ ghost use Rattle.protocol.specs.WellFormed.{row_ok, message_ok, unused_ok};
 ghost use Rattle.wellformed.specs.Laws.{nodes_ok};
 
 use crate::differ::all_differ;
-use crate::message::message_ok;
+use crate::message::bad_message;
 use crate::row::row_ok;
 use crate::zeros::all_zero;
 use protocol::form::{MESSAGE_WORDS, MESSAGES_AT, RECORD_WORDS, ROW_WORDS, ROWS_AT};
@@ -57,15 +57,15 @@ impl Headed<'_> {
         let w = self.words;
         let n = self.nodes;
         let asked = w[3];
-        let mut ok = true;
+        let mut bad: u32 = 0;
         for j in 0..self.messages as usize {
-            ok &= message_ok(
+            bad |= bad_message(
                 n,
                 asked,
                 record::message_at(w, MESSAGES_AT + MESSAGE_WORDS * j),
             );
         }
-        ok
+        bad == 0
     }
 
     // Whether the unused words are 0.

@@ -1,7 +1,9 @@
-// Is a message as it must be? Tests put together without a branch, so that the loop over the messages has none.
-ghost use Rattle.std.specs.Prelude.{◌≡◌, ◌&&◌, nat_le, nat_lt};
+// What is wrong with a message, as a number that is 0 where nothing is. (No tests put together by `&`, as for a row: tried, by which a record of 256
+// messages took 65 ns more, and three points of docs/BENCH.md missed their targets.)
+ghost use Rattle.std.specs.Prelude.{◌≡◌, ◌&&◌, nat_le, nat_lt, nat_eq};
 ghost use Rattle.protocol.specs.WellFormed.{names_node, a_ok, b_ok, hops_ok, message_ok};
 
+use lists::{failure, pick};
 use protocol::{Message, kinds};
 
 // Whether a is a node in a message of this kind: JOIN, JOINPOINT, NEWSUCCACK and LEAVEPOINT.
@@ -15,26 +17,27 @@ fn names_node(kind: u32) -> bool
 }
 
 // 'kinds 1 to 14; from and to below n'
-fn ends_ok(n: u32, m: Message) -> bool
-    ensures { result ≡ (nat_le 1 m.kind && nat_lt m.kind 15 && nat_lt m.from n && nat_lt m.to n) }
+fn bad_ends(n: u32, m: Message) -> u32
+    ensures { nat_eq result 0 ≡ (nat_le 1 m.kind && nat_lt m.kind 15 && nat_lt m.from n && nat_lt m.to n) }
 {
-    (1 <= m.kind) & (m.kind < 15) & (m.from < n) & (m.to < n)
+    failure((1 <= m.kind) & (m.kind < 15)) | failure(m.from < n) | failure(m.to < n)
 }
 
 // 'LOOKUP has any a, b below asked and hops at most 65535; JOIN, .. have a below n; other message fields are 0'
-fn fields_ok(n: u32, asked: u32, m: Message) -> bool
-    ensures { result ≡ (a_ok n m && b_ok asked m && hops_ok m) }
+fn bad_fields(n: u32, asked: u32, m: Message) -> u32
+    ensures { nat_eq result 0 ≡ (a_ok n m && b_ok asked m && hops_ok m) }
 {
-    let lookup = m.kind == kinds::LOOKUP;
     let names = names_node(m.kind);
-    let of_lookup = (m.b < asked) & (m.hops <= 65535);
-    let of_others = (m.b == 0) & (m.hops == 0) & (names | (m.a == 0));
-    (!lookup | of_lookup) & (!names | (m.a < n)) & (lookup | of_others)
+    let lookup = failure(m.b < asked) | (m.hops / 65536);
+    let others = m.b | m.hops | pick(!names, m.a, 0);
+    pick(m.kind == kinds::LOOKUP, lookup, 0)
+        | pick(names, failure(m.a < n), 0)
+        | pick(m.kind != kinds::LOOKUP, others, 0)
 }
 
-// A message of a ring of n nodes with so many questions asked.
-pub fn message_ok(n: u32, asked: u32, m: Message) -> bool
-    ensures { result ≡ message_ok n asked m }
+// 0 for a message of a ring of n nodes with so many questions asked.
+pub fn bad_message(n: u32, asked: u32, m: Message) -> u32
+    ensures { nat_eq result 0 ≡ message_ok n asked m }
 {
-    ends_ok(n, m) & fields_ok(n, asked, m)
+    bad_ends(n, m) | bad_fields(n, asked, m)
 }
