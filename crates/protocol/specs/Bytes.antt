@@ -1,13 +1,14 @@
 -- Document 01, 'Reading the ring': the calls as a C program makes them, where 'the words travel as bytes'. Bytes are numbers below 256.
-use Rattle.std.specs.Prelude.{List, [], ◌∷◌, ◌++◌, ℕ, ◌+◌, ◌*◌, ◌/◌, ◌%◌, ◌<◌, nat_le, length, drop}
+use Rattle.std.specs.Prelude.{List, [], ◌∷◌, ◌++◌, Result, ℕ, ◌+◌, ◌*◌, ◌/◌, ◌%◌, ◌<◌, nat_le, length, drop}
 use Rattle.lists.specs.Basics.{require, flat}
-use Rattle.protocol.specs.Outcomes.{Outcome, Ownership}
+use Rattle.protocol.specs.Outcomes.{Ownership}
 use Rattle.std.specs.Prelude.{Err, Ok}
+use Rattle.protocol.specs.declared.refusal.Refusal.{Refusal}
 use Rattle.protocol.specs.declared.refusal.Refusal.TheVariants.{OutputShort}
 use Rattle.protocol.specs.Fresh.{smallest}
 use Rattle.protocol.specs.Refusals.{number_of}
 use Rattle.protocol.specs.Answers.{refusal, outcome_words, number_words}
-use Rattle.protocol.specs.Calls.{Called, step_call, fresh_by_call, owner_call}
+use Rattle.protocol.specs.Calls.{Called, step_call, fresh_by_call, owner_call, Rolled, roll_call}
 
 abbrev pub Byte : ℕ → Type 0
 Byte x = x < 256
@@ -35,7 +36,7 @@ unfoldable pub over : List ℕ → List ℕ → List ℕ
 over bytes w = bytes_of w ++ drop (4 * length w) bytes
 
 -- The bytes lent for the words, after a call that leaves these words: 'The number is returned, and no word of record .. changes.'
-unfoldable pub bytes_after : List ℕ → List ℕ → Outcome → List ℕ
+unfoldable pub bytes_after : {A : Type 0} → List ℕ → List ℕ → Result A Refusal → List ℕ
 bytes_after bytes slice (Err k) = bytes
 bytes_after bytes slice (Ok a) = over bytes slice
 
@@ -70,6 +71,26 @@ told out owner = record { code = refusal owner; output = over out (number_words 
 unfoldable pub owner_bytes : List ℕ → ℕ → List ℕ → OwnerBytes
 owner_bytes bytes number out =
     require (nat_le 4 (length out)) (record { code = number_of OutputShort; output = out }) (told out (owner_call (words_of bytes) number))
+
+-- What a roll call leaves: the number returned, and two lent outputs, one for the hubs and one for how many they are.
+pub record RollBytes : Type 0 where
+  pub code : ℕ
+  pub roll : List ℕ
+  pub length : List ℕ
+
+unfoldable pub roll_told : List ℕ → List ℕ → Rolled → RollBytes
+roll_told out size rolled = record {
+  code = refusal rolled.outcome;
+  roll = bytes_after out rolled.output rolled.outcome;
+  length = over size (number_words rolled.outcome);
+}
+
+-- The roll call, which C has since document 02's 2026-07. The output for the length, one word, is 17 first, as the owner query's is; the roll's
+-- own 17 stays the last question.
+unfoldable pub roll_bytes : List ℕ → ℕ → List ℕ → List ℕ → RollBytes
+roll_bytes bytes hub out size =
+    require (nat_le 4 (length size)) (record { code = number_of OutputShort; roll = out; length = size })
+    (roll_told out size (roll_call (words_of bytes) hub (words_of out)))
 
 -- What a fresh call leaves: the number returned, and the bytes lent for the words. It has no output, since its answer is quiet.
 pub record FreshBytes : Type 0 where
