@@ -16,6 +16,7 @@ pub mod Demand3
 pub mod Engines
 pub mod Run
 pub mod Theorem
+pub mod Lasting
 pub mod Refuted
 pub mod Record
 pub mod Small

@@ -22,11 +22,11 @@ use Rattle.protocol.specs.Bytes.{Byte, words_of, over, bytes_after, carried, ste
 use Rattle.protocol.specs.Batch.{ask_each, unasked, batch_written, batch_call, batch_carried, batch_bytes}
 use Rattle.layout.specs.Bytes.{words_below, written_read}
 use Rattle.layout.specs.Questions.{above_0, fresh_cases, batch_both}
-use Rattle.atomicity.specs.Demand3.{Call, ThreeWords, Event, Word, present, called, history, record_after, Founded, from_fresh, Claims, Demand3}
+use Rattle.atomicity.specs.Demand3.{Call, ThreeWords, Event, Word, present, called, history, record_after, Founded, Reached, from_fresh, Demand3}
 use Rattle.atomicity.specs.Record.{step_sound, fresh_sound}
 use Rattle.atomicity.specs.Theorem.{demand_3}
 use Rattle.atomicity.specs.Small.{reached_words}
-use Rattle.atomicity.specs.Demand3C.{CCall, step, route, Passed, called_bytes, ask, step_of, steps_of, bytes_left, CDemand3}
+use Rattle.atomicity.specs.Demand3C.{CCall, step, route, Passed, called_bytes, ask, step_of, steps_of, bytes_left, FoundedBytes, CDemand3}
 
 -- Some calls behind others.
 pub history_append : (w : List ℕ) (a b : List Call) → history present w (a ++ b) ≡ history present w a ++ history present (record_after present w a) b
@@ -179,12 +179,12 @@ begins lent ids founder bytes small zero =
       is = refl;
     }
 
-pub c_demand_3 : CDemand3
-unfolding CDemand3 Demand3 fresh_by_bytes fresh_carried
-c_demand_3 ids founder events bytes r =
-    subst (λ l. Claims present ids founder l (words_of bytes)) (sym r.happened)
-    (subst (λ b. Claims present ids founder (steps_of first r.calls) (words_of b)) (sym r.is)
-    (demand_3 ids founder _ _ (from_fresh all.0)))
+-- So the record that such bytes carry is one that calls on words reached.
+pub c_reached : {ids : List ℕ} {founder : ℕ} {events : List Event} {bytes : List ℕ} → FoundedBytes ids founder events bytes → Reached ids founder events (words_of bytes)
+unfolding fresh_by_bytes fresh_carried
+c_reached {ids} {founder} {events} {bytes} r =
+    subst (λ l. Reached ids founder l (words_of bytes)) (sym r.happened)
+    (subst (λ b. Reached ids founder (steps_of first r.calls) (words_of b)) (sym r.is) (from_fresh all.0))
   where
     first : List ℕ
     first = (fresh_by_bytes r.lent r.identifiers founder).bytes
@@ -196,3 +196,7 @@ c_demand_3 ids founder events bytes r =
 
     all : At ids founder (steps_of first r.calls) (bytes_left first r.calls)
     all = every_call ids founder [] first start r.calls r.commands
+
+pub c_demand_3 : CDemand3
+unfolding CDemand3 Demand3
+c_demand_3 ids founder events bytes r = demand_3 ids founder events (words_of bytes) (c_reached r)

@@ -11,7 +11,8 @@ use Rattle.protocol.specs.Record.{round, most_nodes, row_start}
 use Rattle.layout.specs.Owners.{Names}
 use Rattle.cardlayout.specs.Marks.{Marked}
 use Rattle.cardlayout.specs.Reach.{gap, reach}
-use Rattle.cardlayout.specs.Circle.{total, total_cut, once_round, gap_enough}
+use Rattle.lists.specs.Sums.{total, total_cut}
+use Rattle.cardlayout.specs.Circle.{once_round, gap_enough}
 use Rattle.cardlayout.specs.Sound.{MarksForm}
 use Rattle.card_checks.specs.Homes.{Copied, reach_same}
 

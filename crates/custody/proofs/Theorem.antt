@@ -37,7 +37,7 @@ use Rattle.atomicity.specs.Demand3.{Call, Word, ThreeWords, present, called, Eve
 use Rattle.atomicity.specs.Engines.{refused_answered, present_laws}
 use Rattle.atomicity.specs.Theorem.{members_append, members_last, Course, members_below, runs, reached_course, demand_3}
 use Rattle.atomicity.specs.TheoremC.{history_append, record_append}
-use Rattle.custody.specs.Lasting.{Some, some_kept}
+use Rattle.atomicity.specs.Lasting.{Some, some_kept}
 use Rattle.custody.specs.Custody.{Offer, Route, CardCall, step, offer, route, InWords, made, CardEvent, behind, card_history, words_after, cards_after, asks, steps, step_events, prices_then, prices_after, priced, Custody}
 use Rattle.custody.specs.Routes.{route_history, route_record, route_stays, behind_prices, route_words, route_append}
 use Rattle.custody.specs.Offers.{Fair}

@@ -1,6 +1,5 @@
 pub mod Custody
 pub mod Routes
-pub mod Lasting
 pub mod Offers
 pub mod Kept
 pub mod Instance

@@ -1,6 +1,6 @@
 -- Words as bytes and back. Assumes nothing.
-use Rattle.std.specs.Prelude.{◌≡◌, refl, List, [], ◌∷◌, ◌++◌, ℕ, suc, ◌+◌, ◌*◌, ◌/◌, ◌%◌, ◌<◌, length, drop}
-use Rattle.std.proofs.Common.{ap, ◌∙◌, append_assoc, append-nil, arith, length-append, drop-drop}
+use Rattle.std.specs.Prelude.{◌≡◌, refl, List, [], ◌∷◌, ◌++◌, ℕ, zero, suc, ◌+◌, ◌*◌, ◌/◌, ◌%◌, ◌<◌, length, drop}
+use Rattle.std.proofs.Common.{ap, sym, ◌∙◌, drop_of_length-le, append_assoc, append-nil, arith, length-append, drop-drop}
 use Rattle.lists.specs.Basics.{All}
 use Rattle.lists.specs.Members.{all_drop}
 use Rattle.lists.specs.Blocks.{flat_append}
@@ -22,6 +22,10 @@ same_bytes a b c d ha hb hc hd =
     let k : d % 256 ≡ d = omega arith in
     rw (p, q, r, s, i, j, k)
 
+-- one word more
+four_more : (n : ℕ) → 4 * suc n ≡ suc (suc (suc (suc (4 * n))))
+four_more n = omega arith
+
 -- Bytes read as words and written back are the same bytes, those left over too.
 pub round_trip : (b : List ℕ) → All Byte b → over b (words_of b) ≡ b
 unfolding words_of over
@@ -31,7 +35,7 @@ round_trip (x ∷ y ∷ []) h = refl
 round_trip (x ∷ y ∷ z ∷ []) h = refl
 round_trip (x ∷ y ∷ z ∷ u ∷ r) h =
     let n = length (words_of r) in
-    let e : 4 * suc n ≡ suc (suc (suc (suc (4 * n)))) = omega arith in
+    let e = four_more n in
     ap (λ l. l ++ (bytes_of (words_of r) ++ drop (4 * suc n) (x ∷ y ∷ z ∷ u ∷ r))) (same_bytes x y z u h.0 h.1.0 h.1.1.0 h.1.1.1.0)
     ∙ ap (λ k. x ∷ y ∷ z ∷ u ∷ (bytes_of (words_of r) ++ drop k (x ∷ y ∷ z ∷ u ∷ r))) e
     ∙ ap (λ l. x ∷ y ∷ z ∷ u ∷ l) (round_trip r h.1.1.1.1)
@@ -49,6 +53,16 @@ pub words_back : (w t : List ℕ) → All (λ x. x < round) w → words_of (byte
 unfolding words_of
 words_back [] t h = refl
 words_back (x ∷ w) t h = rw (same_word x h.0) (ap (λ l. x ∷ l) (words_back w t h.1))
+
+-- The words behind the first n are those of the bytes behind the first 4 n.
+pub words_behind : (n : ℕ) (b : List ℕ) → drop n (words_of b) ≡ words_of (drop (4 * n) b)
+unfolding words_of
+words_behind zero b = refl
+words_behind (suc n) [] = rw (four_more n) refl
+words_behind (suc n) (x ∷ []) = rw (four_more n) refl
+words_behind (suc n) (x ∷ y ∷ []) = rw (four_more n) refl
+words_behind (suc n) (x ∷ y ∷ z ∷ []) = rw (four_more n) refl
+words_behind (suc n) (x ∷ y ∷ z ∷ u ∷ rest) = rw (four_more n) (words_behind n rest)
 
 -- Words behind the record are written back as they were read: to write the record alone is the same.
 pub back : (b s : List ℕ) (n : ℕ) → All Byte b → length s ≡ n → over b (s ++ words_of (drop (4 * n) b)) ≡ over b s
@@ -70,15 +84,7 @@ words_below (x ∷ y ∷ z ∷ u ∷ r) h = (omega (arith, h.0, h.1.0, h.1.1.0, 
 
 -- no word is behind the last
 left_over : (b : List ℕ) → words_of (drop (4 * length (words_of b)) b) ≡ []
-unfolding words_of
-left_over [] = refl
-left_over (x ∷ []) = refl
-left_over (x ∷ y ∷ []) = refl
-left_over (x ∷ y ∷ z ∷ []) = refl
-left_over (x ∷ y ∷ z ∷ u ∷ r) =
-    let n = length (words_of r) in
-    let e : 4 * suc n ≡ suc (suc (suc (suc (4 * n)))) = omega arith in
-    ap (λ k. words_of (drop k (x ∷ y ∷ z ∷ u ∷ r))) e ∙ left_over r
+left_over b = sym (words_behind (length (words_of b)) b) ∙ drop_of_length-le (words_of b) (omega arith)
 
 -- As many words as there were, written over the bytes, are what is read from them afterwards.
 pub written_read : (b s : List ℕ) → All (λ x. x < round) s → length s ≡ length (words_of b) → words_of (over b s) ≡ s

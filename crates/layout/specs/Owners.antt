@@ -2,7 +2,7 @@
 -- Assumes nothing.
 use Rattle.std.specs.Prelude.{◌≡◌, refl, ℕ, ◌≤◌, ◌<◌, nat_le, length, get_or}
 use Rattle.std.proofs.Math.Path.{ap}
-use Rattle.std.proofs.Common.{subst, arith, leb→le}
+use Rattle.std.proofs.Common.{sym, ◌∙◌, subst, arith, leb→le}
 use Rattle.std.proofs.Math.Logic.{inl, inr}
 use mathlib.Core.List.{List, [], ◌∷◌}
 use Rattle.std.proofs.Math.Dec.{nleb→lt}
@@ -11,7 +11,8 @@ use Rattle.clockwise.specs.Laws.{dist_inj}
 use Rattle.lists.specs.Basics.{Mem}
 use Rattle.lists.specs.Choice.{choose}
 use Rattle.protocol.specs.Record.{round}
-use Rattle.protocol.specs.Membership.{node, nearer, owner_among}
+use Rattle.protocol.specs.Membership.{Owner, nobody, node, nearer, owner_among}
+use Rattle.protocol.specs.Cards.{hub_of}
 
 -- h is the owner of v: a member, and none is nearer
 pub record Owns (ids members : List ℕ) (v h : ℕ) : Type 0 where
@@ -46,6 +47,18 @@ module _ (ids : List ℕ) (v : ℕ) where
   has_owner [] m i = absurd i
   has_owner (x ∷ []) m i = (x, record { is = refl; member = inl refl; least = λ k. elim [ inl e ↦ omega (arith, ap far e) | inr z ↦ absurd z ] })
   has_owner (x ∷ y ∷ members) m i = let r = has_owner (y ∷ members) y (inl refl) in more x (y ∷ members) r.0 r.1
+
+-- nobody is no hub
+IsNode : Owner → Type 0
+IsNode = elim [ nobody ↦ ⊥ | node h ↦ Unit {0} ]
+
+-- So what is computed is a member, and none is nearer.
+pub owns : (ids : List ℕ) (v : ℕ) (members : List ℕ) (h : ℕ) → owner_among ids members v ≡ node h → Owns ids members v h
+unfolding owner_among hub_of IsNode
+owns ids v [] h e = absurd (subst IsNode (sym e) tt)
+owns ids v (x ∷ members) h e =
+    let r = has_owner ids v (x ∷ members) x (inl refl) in
+    subst (Owns ids (x ∷ members) v) (ap hub_of (sym r.1.is ∙ e)) r.1
 
 -- The identifiers of a ring: of 32 bits, and no two hubs have the same.
 pub record Names (ids : List ℕ) : Type 0 where

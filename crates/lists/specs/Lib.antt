@@ -4,6 +4,7 @@ pub mod Choice
 pub mod Tests
 pub mod Members
 pub mod Search
+pub mod Sums
 pub mod Blocks
 pub mod Splice
 pub mod Merge

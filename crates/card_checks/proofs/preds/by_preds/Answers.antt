@@ -10,7 +10,7 @@ use Rattle.lists.specs.Basics.{when◌then◌else◌}
 use Rattle.lists.specs.Members.{filled}
 use Rattle.lists.specs.Merge.{merged, merged_none, merged_more, or_test}
 use Rattle.lists.specs.Tests.{true_T, and_left, and_right}
-use Rattle.cardlayout.specs.Circle.{total, total_none, total_more}
+use Rattle.lists.specs.Sums.{total, total_none, total_more}
 use Rattle.card_checks.specs.Preds.{gap_back, strange, strange_test, arc_back, preds_law, arc_few}
 use Rattle.card_checks.proofs.preds.by_preds.Goals as goal
 

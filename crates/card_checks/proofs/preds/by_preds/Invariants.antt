@@ -4,7 +4,7 @@ use Prim.Native.Nat.{ℕ, ◌*◌, ◌≤◌, ◌<◌}
 use Rattle.std.specs.Prelude.{nat_eq}
 use lib.ListN.{length, get_or}
 use Rattle.lists.specs.Merge.{merged}
-use Rattle.cardlayout.specs.Circle.{total}
+use Rattle.lists.specs.Sums.{total}
 use Rattle.card_checks.specs.Preds.{gap_back, strange, arc_back}
 use Rattle.card_checks.proofs.preds.by_preds.Given as goal
 
