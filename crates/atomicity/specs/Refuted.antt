@@ -25,13 +25,13 @@ use Rattle.atomicity.specs.Demand3.{Event, present, called, members_after, quest
 use Rattle.atomicity.specs.Engines.{call_is}
 
 -- Two hubs with the identifiers 100 and 200, of which hub 0 founds the ring.
-abbrev two : List ℕ
+abbrev pub two : List ℕ
 two = 100 ∷ 200 ∷ []
 
-abbrev ring : Row → Row → List Message → List ℕ
+abbrev pub ring : Row → Row → List Message → List ℕ
 ring h g messages = words (record { rows = h ∷ g ∷ []; messages = messages; asked = 1 }) ++ []
 
-same : (h g : Row) (messages : List Message) → read (ring h g messages) ≡ record { rows = h ∷ g ∷ []; messages = messages; asked = 1 }
+pub same : (h g : Row) (messages : List Message) → read (ring h g messages) ≡ record { rows = h ∷ g ∷ []; messages = messages; asked = 1 }
 same h g messages = read_words (record { rows = h ∷ g ∷ []; messages = messages; asked = 1 }) [] (omega arith)
 
 -- An event: an ask at hub 0 for 150, or a delivery from hub 1 to hub 0, with what it gave.

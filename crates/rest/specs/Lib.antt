@@ -6,3 +6,5 @@ pub mod AtRest
 pub mod Theorem
 pub mod AtRestC
 pub mod TheoremC
+pub mod Instance
+pub mod Refuted
