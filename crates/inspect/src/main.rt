@@ -1,5 +1,5 @@
-// A ring, line by line, in words: frames as `ringrun` reads them, and lines that ask for rows, rolls, waiting messages and counts, which neither
-// `ringrun` nor the C calls show (docs/INSPECT.md). What it prints is compared with the model's (tests/inspect, tests/differential).
+// A ring, line by line, in words: frames as `ringrun` reads them, and lines that ask for what `ringrun` does not show: rows, rolls, waiting messages and
+// counts (docs/INSPECT.md). What it prints is compared with the model's (tests/inspect, tests/differential).
 #![tactic(auto)]
 
 mod bounds;
