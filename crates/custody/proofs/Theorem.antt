@@ -33,11 +33,13 @@ use Rattle.cardlayout.specs.Marks.{home_is, mem_marked, marked_mem, member_some}
 use Rattle.cardlayout.specs.Books.{drop_book, long_book, count_book, card_read, marks_read, read_book_lem}
 use Rattle.cardlayout.specs.Sound.{book_well_formed}
 use Rattle.atomicity.specs.Members.{mark_head, mark_tail, struck_same, struck_other, taken_in_same, taken_in_other, mem_marked as mem_mark, marked as mark_mem}
-use Rattle.atomicity.specs.Demand3.{Call, Word, ThreeWords, present, called, Event, history, record_after, members_after, from_fresh, Claims, Demand3}
+use Rattle.atomicity.specs.Demand3.{Call, Word, ThreeWords, present, called, Event, history, record_after, members_after, Reached, from_fresh, Claims, Demand3}
 use Rattle.atomicity.specs.Engines.{refused_answered, present_laws}
 use Rattle.atomicity.specs.Theorem.{members_append, members_last, Course, members_below, runs, reached_course, demand_3}
 use Rattle.atomicity.specs.TheoremC.{history_append, record_append}
 use Rattle.atomicity.specs.Lasting.{Some, some_kept}
+use Rattle.rest.specs.AtRest.{AtRest}
+use Rattle.rest.specs.Theorem.{at_rest}
 use Rattle.custody.specs.Custody.{Offer, Route, CardCall, step, offer, route, InWords, made, CardEvent, behind, card_history, words_after, cards_after, asks, steps, step_events, prices_then, prices_after, priced, Custody}
 use Rattle.custody.specs.Routes.{route_history, route_record, route_stays, behind_prices, route_words, route_append}
 use Rattle.custody.specs.Offers.{Fair}
@@ -406,7 +408,7 @@ new_kept ids founder below = record {
 }
 
 pub custody : Custody
-unfolding Custody Demand3 history record_after members_after
+unfolding Custody Demand3 AtRest history record_after members_after
 custody ids founder events w k r = record {
   members = member_words ids founder rest S;
   held = held ids founder rest S;
@@ -416,6 +418,7 @@ custody ids founder events w k r = record {
   same = same;
   claims = claims;
   next = delivers ids founder rest S claims;
+  at_rest = at_rest ids founder (step_events events) w reached;
 }
   where
     M : Made r.slice r.book ids founder
@@ -473,8 +476,9 @@ custody ids founder events w k r = record {
         (subst (Stage ids founder rest (step_events (card_history bare k₀ r.calls)) (prices_after [] (card_history bare k₀ r.calls)) (words_after bare k₀ r.calls)) (sym is_cards)
         E.stage))
 
-    claims : Claims present ids founder (step_events events) w
-    claims = demand_3 ids founder (step_events events) w (from_fresh (record {
+    -- the steps alone reached the record
+    reached : Reached ids founder (step_events events) w
+    reached = from_fresh (record {
       slice = r.slice;
       calls = steps r.calls;
       identifiers = r.small;
@@ -482,4 +486,7 @@ custody ids founder events w k r = record {
       accepted = M.founded;
       happened = outcomes;
       is = same;
-    }))
+    })
+
+    claims : Claims present ids founder (step_events events) w
+    claims = demand_3 ids founder (step_events events) w reached

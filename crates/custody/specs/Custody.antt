@@ -17,6 +17,7 @@ use Rattle.protocol.specs.Batch.{fitting, BatchCalled, batch_call, batch_outcome
 use Rattle.protocol.specs.Cards.{card_start, cards_in, card_from, read_book, CardsCalled, on_both, step_cards, offer_call, fresh_by_cards}
 use Rattle.atomicity.specs.Demand3.{Call, Word, ThreeWords, Event, present, history, record_after, members_after, Claims}
 use Rattle.atomicity.specs.Demand3C.{ask}
+use Rattle.rest.specs.AtRest.{Rests, Resting}
 
 -- An offered card: its hub is not passed.
 pub record Offer : Type 0 where
@@ -158,6 +159,8 @@ pub record CardClaims (ids : List ℕ) (founder : ℕ) (bare : List ℕ) (alone 
   -- (f) Demand 3's claims hold of them; and of its last one also this: a next deliver with cards is refused no more than one without.
   pub claims : Claims present ids founder (step_events events) w
   pub next : (m : Message) → Mem m (read w).messages → (number : Refusal) → (step_cards w k 3 m.from m.to).outcome ≡ Err number → ⊥
+  -- (g) And so do those of a ring at rest (2026-07): where no message waits, the roll is exactly the ledger, and each card's hub is on it.
+  pub at_rest : Rests w → Resting ids (ledger founder events) w
 
 -- Of every slice that was made with its ring.
 unfoldable pub Custody : Type 0

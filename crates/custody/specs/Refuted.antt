@@ -13,7 +13,7 @@ use Rattle.protocol.specs.declared.refusal.Refusal.TheVariants.{NoHub, NotWellFo
 use Rattle.protocol.specs.Record.{State, outside, words}
 use Rattle.protocol.specs.Fresh.{alone}
 use Rattle.protocol.specs.Kinds.{question}
-use Rattle.protocol.specs.Calls.{long, on_record, step_call}
+use Rattle.protocol.specs.Calls.{long, on_record, owner_call, step_call}
 use Rattle.protocol.specs.Answers.{refusal}
 use Rattle.protocol.specs.Batch.{fitting}
 use Rattle.protocol.specs.Membership.{nearer, owner_among, mark}
@@ -136,3 +136,8 @@ unfolding step_cards on_both both_long
 delivery_refused c =
     c.next waits (subst (λ z. Mem waits z.messages) (sym (read_words ring [] (omega arith))) (inl refl)) RecordShort
     (tested (λ (z : CardsCalled). z.outcome ≡ Err RecordShort) _ _ _ refl (λ _. ap (λ (z : CardsCalled). z.outcome) (on_no (nat_le book_size (length {A = ℕ} [])) _ _ refl)))
+
+-- (g) A record that is cut short, so that nothing waits in it, and the owner query is refused.
+pub not_at_rest : founded [] → ⊥
+unfolding owner_call on_record long refusal require when◌then◌else◌
+not_at_rest c = omega (arith, ap refusal ((c.at_rest refl).owner 150 (omega arith)).call)
