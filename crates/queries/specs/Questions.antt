@@ -1,6 +1,6 @@
 -- The questions of each call, in the words' terms: which facts lead to which refusal, and to the call's result. Assumes nothing.
-use Rattle.std.specs.Prelude.{◌≡◌, true, false, List, [], ℕ, ◌≤◌, ◌<◌, length, take, drop, Option, None, Some, MatchOption}
-use Rattle.std.proofs.Common.{sym, ◌∙◌}
+use Rattle.std.specs.Prelude.{◌≡◌, true, false, List, [], ◌++◌, ℕ, ◌≤◌, ◌<◌, length, take, drop, Option, None, Some, MatchOption}
+use Rattle.std.proofs.Common.{sym, ◌∙◌, length-take-le}
 use Rattle.std.proofs.Math.Path.{ap}
 use Rattle.std.specs.Option.{ok_or}
 use native.Mathlib.Omega.{arith}
@@ -9,16 +9,16 @@ use borrow.Author.Tests.{lt-ltb, le-ltb}
 use Rattle.lists.specs.Choice.{on_yes, on_no}
 use Rattle.lists.specs.Basics.{first}
 use Rattle.std.specs.Prelude.{Err, Ok}
-use Rattle.protocol.specs.declared.refusal.Refusal.TheVariants.{NoHolder, NoHub, NotInRing, NotWellFormed, RecordShort}
+use Rattle.protocol.specs.declared.refusal.Refusal.TheVariants.{NoHolder, NoHub, NotInRing, NotWellFormed, NoWayRound, OutputShort, RecordShort}
 use Rattle.protocol.specs.Record.{record_size, row_size, row_start, count_in, row, identifier, read}
 use Rattle.protocol.specs.WellFormed.{well_formed}
 use Rattle.protocol.specs.Routing.{in_ring, responsible, covers}
 use Rattle.protocol.specs.Membership.{holds}
-use Rattle.protocol.specs.Calls.{lowest_holder, owner_call, row_call, roll, unrolled, roll_call}
+use Rattle.protocol.specs.Calls.{lowest_holder, owner_call, row_call, Traversal, lost, complete, roll, unrolled, roll_written, roll_call}
 use Rattle.layout.specs.Words.{count_of_read}
 use Rattle.layout.specs.Form.{Valid}
 use Rattle.layout.specs.Questions.{record_1, record_2, record_rest}
-use Rattle.queries.specs.Rolls.{rolled_from, from_start}
+use Rattle.queries.specs.Rolls.{prepended, none_in_front, fits, short}
 
 module _ (w : List ℕ) where
   abbrev n : ℕ
@@ -97,10 +97,33 @@ module _ (w : List ℕ) where
       unfolding roll_call
       roll_5 l e = record_rest w (unrolled out) _ ok.long ok.formed ∙ on_yes _ _ _ (lt-ltb node n l) ∙ on_no _ _ _ e
 
-      pub roll_given : node < n → in_ring (row (read w) node) ≡ true → roll_call w node out ≡ rolled_from out 0 (roll (read w) node n node)
-      unfolding roll_call
-      roll_given l e =
-          record_rest w (unrolled out) _ ok.long ok.formed
-          ∙ on_yes _ _ _ (lt-ltb node n l)
-          ∙ on_yes _ _ _ e
-          ∙ from_start out (roll (read w) node n node)
+      module _ (l : node < n) (e : in_ring (row (read w) node) ≡ true) where
+        abbrev around : Traversal
+        around = prepended [] (roll (read w) node n node)
+
+        given : roll_call w node out ≡ roll_written out around
+        unfolding roll_call
+        given =
+            record_rest w (unrolled out) _ ok.long ok.formed
+            ∙ on_yes _ _ _ (lt-ltb node n l)
+            ∙ on_yes _ _ _ e
+            ∙ ap (roll_written out) (sym (none_in_front (roll (read w) node n node)))
+
+        pub roll_16 : around ≡ lost → roll_call w node out ≡ unrolled out NoWayRound
+        unfolding roll_written
+        roll_16 r = given ∙ ap (roll_written out) r
+
+        -- k nodes were gathered in a room
+        module _ (k : ℕ) (room : List ℕ) (r : (around ≡ complete (take k room)) × (k ≤ length room)) where
+          size : length (take k room) ≡ k
+          size = length-take-le k room r.1
+
+          pub roll_17 : length out < k → roll_call w node out ≡ unrolled out OutputShort
+          roll_17 h = given ∙ ap (roll_written out) r.0 ∙ short out (take k room) (omega (arith, size))
+
+          pub roll_given : k ≤ length out → roll_call w node out ≡ record { outcome = Ok k; output = take k room ++ drop k out }
+          roll_given h =
+              given
+              ∙ ap (roll_written out) r.0
+              ∙ fits out (take k room) (omega (arith, size))
+              ∙ ap (λ i. record { outcome = Ok i; output = take k room ++ drop i out }) size

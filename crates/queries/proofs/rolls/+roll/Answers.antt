@@ -1,38 +1,35 @@
 -- `roll`: each return is one of the ways in which a roll goes on. Assumes nothing.
-use Rattle.std.proofs.Common.{◌-◌, ◌∙◌, ap}
+use Rattle.std.proofs.Common.{refl, ap, arith, length-set}
 use Rattle.protocol.specs.Record.{read}
-use Rattle.protocol.specs.Calls.{roll as roll_spec}
-use Rattle.queries.specs.Rolls.{room, over_16, ends, lost_16, goes_on}
+use Rattle.queries.specs.Rolls.{used_up, ends, no_succ, goes_on}
 use Rattle.queries.proofs.rolls.+roll.Goals as goal
 
 pub returns-then-left-eq0 : goal.returns-then-left-eq0
 returns-then-left-eq0 t c =
     let a = c.args in
-    over_16 (read a.w.now) a.start a.left a.node a.output.now a.at c.if-left-eq0.true
+    (refl, used_up (read a.w.now) a.start a.left a.node a.room.now a.at c.if-left-eq0.true)
 
 pub returns-then-next-start : goal.returns-then-next-start
 returns-then-next-start t c =
     let a = c.args in
-    let h = c.row_of-h in
-    ends (read a.w.now) a.start a.left a.node a.output.now a.at c.if-left-eq0.false h.result.succ (ap (λ z. z.succ) h.ensures) c.if-next-start.true
-    ∙ c.put_last.ensures
+    let h = c.row_of-next in (
+      ends (read a.w.now) a.start a.left a.node a.room.now a.at c.if-left-eq0.false h.result.succ (ap (λ z. z.succ) h.ensures) (omega arith) c.if-next-start.true,
+      simp length-set (omega arith),
+    )
 
 pub returns-then-next-eq-NONE : goal.returns-then-next-eq-NONE
 returns-then-next-eq-NONE t c =
     let a = c.args in
-    let h = c.row_of-h in
-    lost_16 (read a.w.now) a.start a.left a.node a.output.now a.at c.if-left-eq0.false h.result.succ (ap (λ z. z.succ) h.ensures)
-    c.if-next-start.false c.if-next-eq-NONE.true
-
-pub put_before-requires : goal.put_before-requires
-put_before-requires t c =
-    let a = c.args in
-    room a.output.now a.at (roll_spec (read a.w.now) a.start (a.left - 1) c.row_of-h.result.succ) _ c.roll-rest.ensures
+    let h = c.row_of-next in (
+      refl,
+      no_succ (read a.w.now) a.start a.left a.node a.room.now a.at c.if-left-eq0.false h.result.succ (ap (λ z. z.succ) h.ensures)
+      c.if-next-start.false c.if-next-eq-NONE.true,
+    )
 
 pub returns : goal.returns
 returns t c =
     let a = c.args in
-    let h = c.row_of-h in
-    goes_on (read a.w.now) a.start a.left a.node a.output.now a.at c.if-left-eq0.false h.result.succ (ap (λ z. z.succ) h.ensures)
-    c.if-next-start.false c.if-next-eq-NONE.false _ c.roll-rest.ensures
-    ∙ c.put_before.ensures
+    let h = c.row_of-next in
+    rw (goes_on (read a.w.now) a.start a.left a.node a.room.now a.at c.if-left-eq0.false h.result.succ (ap (λ z. z.succ) h.ensures) (omega arith)
+    c.if-next-start.false c.if-next-eq-NONE.false)
+    c.roll.ensures
