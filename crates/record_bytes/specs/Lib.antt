@@ -1,1 +1,2 @@
+pub mod Rolls
 pub mod Results

@@ -1,16 +1,16 @@
 -- What each call for C gives, question by question. Assumes nothing.
 use Rattle.std.specs.Prelude.{◌≡◌, refl, drop}
 use Rattle.std.proofs.Math.Path.{ap}
-use Rattle.std.proofs.Common.{sym, ◌∙◌, arith, length-set, drop_of_length-le, drop_at}
-use mathlib.Core.List.{List, [], ◌++◌, append-nil}
+use Rattle.std.proofs.Common.{sym, ◌∙◌, arith, length-set, drop_of_length-le}
+use mathlib.Core.List.{List, [], ◌∷◌, ◌++◌, append-nil}
 use Prim.Native.Nat.{ℕ, ◌*◌, ◌/◌, ◌<◌, ◌≤◌}
-use Rattle.std.proofs.Math.ListN.{length}
+use Rattle.std.proofs.Math.ListN.{length, take}
 use Rattle.std.proofs.lemmas.List.{length-map}
 use borrow.Author.Tests.{le-leb, lt-leb}
 use Rattle.lists.specs.Choice.{on_yes, on_no}
 use Rattle.lists.specs.Basics.{All}
 use Rattle.lists.specs.Blocks.{length_table}
-use Rattle.protocol.specs.Outcomes.{Outcome}
+use Rattle.protocol.specs.Outcomes.{Outcome, Roll}
 use Rattle.protocol.specs.declared.Answer.TheVariants.{Quiet}
 use Rattle.protocol.specs.declared.refusal.Refusal.{Refusal}
 use Rattle.protocol.specs.declared.refusal.Refusal.TheVariants.{IdentifierCount, OutputShort, RecordShort}
@@ -18,15 +18,17 @@ use Rattle.protocol.specs.Refusals.{number_of}
 use Rattle.protocol.specs.Record.{most_nodes, most_messages, record_size, count, words}
 use Rattle.protocol.specs.Fresh.{fresh}
 use Rattle.protocol.specs.Step.{accepted}
-use Rattle.std.specs.Prelude.{Err}
+use Rattle.std.specs.Prelude.{Err, Ok}
 use Rattle.protocol.specs.Answers.{refusal, outcome_words, number_words}
-use Rattle.protocol.specs.Calls.{turned_down, written, step_call, fresh_by_call, owner_call}
-use Rattle.protocol.specs.Bytes.{Byte, words_of, over, bytes_after, carried, fresh_carried, step_bytes, fresh_by_bytes, told, owner_bytes}
+use Rattle.protocol.specs.Calls.{turned_down, written, step_call, fresh_by_call, owner_call, unrolled, roll_call}
+use Rattle.protocol.specs.Bytes.{Byte, words_of, over, bytes_after, carried, fresh_carried, step_bytes, fresh_by_bytes, told, owner_bytes, RollBytes, roll_told, roll_bytes}
 use Rattle.layout.specs.Words.{length_words}
 use Rattle.layout.specs.Questions.{long_yes, long_no, record_1}
-use Rattle.word_bytes.specs.First.{with, same_step, same_fresh, same_owner}
+use Rattle.queries.specs.Rolls.{fits, short}
+use Rattle.record_bytes.specs.Rolls.{moved, call_tells, roll_size}
+use Rattle.word_bytes.specs.First.{with, same_step, same_fresh, same_owner, same_roll}
 use Rattle.layout.specs.Bytes.{back}
-use Rattle.word_bytes.specs.Carry.{word_at, first_words, words_split, carried_first, words_all, words_length}
+use Rattle.word_bytes.specs.Carry.{word_at, first_words, words_split, words_behind, carried_first, words_all, words_length}
 
 -- a fresh ring has a row for each identifier, and no message
 fresh_count : (ids : List ℕ) (f : ℕ) → length ids ≤ most_nodes → count (fresh ids f) ≤ most_nodes
@@ -89,15 +91,12 @@ module _ (b ids : List ℕ) (f : ℕ) where
       refused_same : (k : Refusal) → fresh_carried b (turned_down (words_of b) k) ≡ fresh_carried b (turned_down z k)
       refused_same k = refl
 
-      behind : drop record_size (words_of b) ≡ words_of (drop (4 * record_size) b)
-      behind = ap (drop record_size) (words_split b record_size l) ∙ drop_at (first_words b record_size) _ record_size (length_table record_size (word_at b))
-
       size : length (words (fresh i f)) ≡ record_size
       size = length_words (fresh i f) [] (fresh_count i f (omega (arith, length_table (length ids / 4) (word_at ids)))) (fresh_quiet i f)
 
       accepted_same : fresh_carried b (written (words_of b) (accepted Quiet (fresh i f))) ≡ fresh_carried b (written z (accepted Quiet (fresh i f)))
       accepted_same =
-          ap (λ l. record { code = 0; bytes = over b (words (fresh i f) ++ l) }) behind
+          ap (λ l. record { code = 0; bytes = over b (words (fresh i f) ++ l) }) (words_behind b record_size l)
           ∙ ap (λ l. record { code = 0; bytes = l }) (back b (words (fresh i f)) record_size bytes size)
           ∙ ap (λ l. record { code = 0; bytes = over b l }) (sym (append-nil (words (fresh i f))) ∙ ap (λ l. words (fresh i f) ++ l) (sym (drop_of_length-le z {i = record_size} (omega arith))))
 
@@ -119,3 +118,54 @@ module _ (b out : List ℕ) (number : ℕ) where
       on_yes _ _ _ (le-leb 4 (length out) h)
       ∙ ap (λ w. told out (owner_call w number)) (words_split b record_size l)
       ∙ ap (told out) (same_owner (first_words b record_size) (words_of (drop (4 * record_size) b)) (length_table record_size (word_at b)) number)
+
+module _ (b out size : List ℕ) (hub : ℕ) where
+  abbrev unwritten : Refusal → RollBytes
+  unwritten k = record { code = number_of k; roll = out; length = size }
+
+  pub roll_length_17 : length size < 4 → roll_bytes b hub out size ≡ unwritten OutputShort
+  unfolding roll_bytes
+  roll_length_17 h = on_no _ _ _ (lt-leb 4 (length size) h)
+
+  module _ (h : 4 ≤ length size) where
+    pub roll_1 : length b < 4 * record_size → roll_bytes b hub out size ≡ unwritten RecordShort
+    unfolding roll_bytes roll_call roll_told refusal bytes_after number_words over
+    roll_1 l =
+        on_yes _ _ _ (le-leb 4 (length size) h)
+        ∙ ap (roll_told out size) (record_1 (words_of b) (unrolled (words_of out)) _ (omega (arith, words_length b)))
+
+    -- the roll call on the record alone, and on places of the call's own, gives o and leaves the places s
+    module _ (l : 4 * record_size ≤ length b) (places : List ℕ) (m : most_nodes ≤ length places) where
+      abbrev a : List ℕ
+      a = first_words b record_size
+
+      abbrev Gives : Roll → List ℕ → Type 0
+      Gives o s = roll_call a hub places ≡ record { outcome = o; output = s }
+
+      given : (o : Roll) (s : List ℕ) → Gives o s → roll_bytes b hub out size ≡ roll_told out size (moved (words_of out) s o)
+      unfolding roll_bytes
+      given o s r =
+          on_yes _ _ _ (le-leb 4 (length size) h)
+          ∙ ap (λ w. roll_told out size (roll_call w hub (words_of out))) (words_split b record_size l)
+          ∙ ap (roll_told out size) (same_roll a (words_of (drop (4 * record_size) b)) (length_table record_size (word_at b)) hub (words_of out)
+          ∙ (call_tells (words_of out) places a hub m).0
+          ∙ ap (λ z. moved (words_of out) z.output z.outcome) r)
+
+      pub roll_refused : (k : Refusal) (s : List ℕ) → Gives (Err k) s → roll_bytes b hub out size ≡ unwritten k
+      unfolding roll_told refusal bytes_after number_words over moved
+      roll_refused k s r = given (Err k) s r
+
+      module _ (n : ℕ) (s : List ℕ) (r : Gives (Ok n) s) where
+        hubs : length (take n s) ≡ n
+        hubs = roll_size a places hub n s m r
+
+        pub roll_17 : length out / 4 < n → roll_bytes b hub out size ≡ unwritten OutputShort
+        unfolding roll_told refusal bytes_after number_words over moved
+        roll_17 f = given (Ok n) s r ∙ ap (roll_told out size) (short (words_of out) (take n s) (omega (arith, hubs, words_length out)))
+
+        pub roll_rest : All Byte out → n ≤ length out / 4 → roll_bytes b hub out size ≡ record { code = 0; roll = over out (take n s); length = over size (n ∷ []) }
+        unfolding roll_told refusal bytes_after number_words moved
+        roll_rest bytes f =
+            given (Ok n) s r
+            ∙ ap (roll_told out size) (fits (words_of out) (take n s) (omega (arith, hubs, words_length out)))
+            ∙ rw (hubs, words_behind out n (omega arith)) (ap (λ x. record { code = 0; roll = x; length = over size (n ∷ []) }) (back out (take n s) n bytes hubs))
