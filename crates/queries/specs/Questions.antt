@@ -1,6 +1,6 @@
 -- The questions of each call, in the words' terms: which facts lead to which refusal, and to the call's result. Assumes nothing.
 use Rattle.std.specs.Prelude.{◌≡◌, true, false, List, [], ◌++◌, ℕ, ◌≤◌, ◌<◌, length, take, drop, Option, None, Some, MatchOption}
-use Rattle.std.proofs.Common.{sym, ◌∙◌, length-take-le}
+use Rattle.std.proofs.Common.{sym, ◌∙◌}
 use Rattle.std.proofs.Math.Path.{ap}
 use Rattle.std.specs.Option.{ok_or}
 use native.Mathlib.Omega.{arith}
@@ -18,7 +18,7 @@ use Rattle.protocol.specs.Calls.{lowest_holder, owner_call, row_call, Traversal,
 use Rattle.layout.specs.Words.{count_of_read}
 use Rattle.layout.specs.Form.{Valid}
 use Rattle.layout.specs.Questions.{record_1, record_2, record_rest}
-use Rattle.queries.specs.Rolls.{prepended, none_in_front, fits, short}
+use Rattle.queries.specs.Rolls.{prepended, none_passed, fits, short}
 
 module _ (w : List ℕ) where
   abbrev n : ℕ
@@ -107,23 +107,15 @@ module _ (w : List ℕ) where
             record_rest w (unrolled out) _ ok.long ok.formed
             ∙ on_yes _ _ _ (lt-ltb node n l)
             ∙ on_yes _ _ _ e
-            ∙ ap (roll_written out) (sym (none_in_front (roll (read w) node n node)))
+            ∙ ap (roll_written out) (sym (none_passed (roll (read w) node n node)))
 
         pub roll_16 : around ≡ lost → roll_call w node out ≡ unrolled out NoWayRound
         unfolding roll_written
         roll_16 r = given ∙ ap (roll_written out) r
 
-        -- k nodes were gathered in a room
-        module _ (k : ℕ) (room : List ℕ) (r : (around ≡ complete (take k room)) × (k ≤ length room)) where
-          size : length (take k room) ≡ k
-          size = length-take-le k room r.1
+        pub roll_17 : (l : List ℕ) → around ≡ complete l → length out < length l → roll_call w node out ≡ unrolled out OutputShort
+        roll_17 l r h = given ∙ ap (roll_written out) r ∙ short out l h
 
-          pub roll_17 : length out < k → roll_call w node out ≡ unrolled out OutputShort
-          roll_17 h = given ∙ ap (roll_written out) r.0 ∙ short out (take k room) (omega (arith, size))
-
-          pub roll_given : k ≤ length out → roll_call w node out ≡ record { outcome = Ok k; output = take k room ++ drop k out }
-          roll_given h =
-              given
-              ∙ ap (roll_written out) r.0
-              ∙ fits out (take k room) (omega (arith, size))
-              ∙ ap (λ i. record { outcome = Ok i; output = take k room ++ drop i out }) size
+        pub roll_given : (l : List ℕ) → around ≡ complete l → length l ≤ length out
+            → roll_call w node out ≡ record { outcome = Ok (length l); output = l ++ drop (length l) out }
+        roll_given l r h = given ∙ ap (roll_written out) r ∙ fits out l h

@@ -1,41 +1,41 @@
 // The roll call: 'A roll call from a hub is that hub followed by the roll of its successor, until the start returns'.
-ghost use Rattle.std.specs.Prelude.{◌≡◌, ◌+◌, ◌≤◌, length, take};
-ghost use Rattle.protocol.specs.Record.{read};
-ghost use Rattle.protocol.specs.Calls.{roll as roll_spec, roll_call, numbered, roll_numbers};
+ghost use Rattle.std.specs.Prelude.{◌≡◌, ◌+◌, ◌≤◌, length};
+ghost use Rattle.protocol.specs.Record.{most_nodes, read};
+ghost use Rattle.protocol.specs.Calls.{roll, roll_call, numbered, roll_numbers};
 ghost use Rattle.layout.specs.Form.{Valid};
-ghost use Rattle.queries.specs.Rolls.{prepended, Gathered};
+ghost use Rattle.queries.specs.Rolls.{prepended, gathered};
 
+use arrayvec::ArrayVec;
 use protocol::Refusal;
 use protocol::form::NONE;
 use record::row_of;
 use routing::in_ring;
 
-// The roll from a node on, of at most so many nodes as are left, behind the nodes that were passed before it: they stand in the room up to `at`. The
-// length of them all, where succ comes back to the start. (Nothing is done behind the call of itself, so the compiler makes a loop of it; the C calls'
-// stack rests on that, and tests/c/run holds it to that. Room and place are no struct: the caller keeps the room.)
-fn roll(
+// Whether following succ from a node on comes back to the start, where at most so many nodes are left to pass; those that are passed go behind those
+// that were passed before. (The call of itself is the last thing that it does, so the compiler makes a loop of it. That is tried in tests/c/run, since
+// the C calls' stack rests on it.)
+fn comes_back(
     w: &[u32],
     start: u32,
-    left: usize,
+    left: u32,
     node: u32,
-    room: &mut [u32],
-    at: usize,
-) -> Result<usize, Refusal>
-    requires { (Valid w.now) × (at + left ≤ length room.old) }
-    ensures { Gathered (prepended (take at room.old) (roll_spec (read w.now) start left node)) room.new result }
+    passed: &mut ArrayVec<u32, 64>,
+) -> bool
+    requires { (Valid w.now) × (length passed.old.items + left ≤ most_nodes) }
+    ensures { prepended passed.old.items (roll (read w.now) start left node) ≡ gathered passed.new.items result }
 {
     if left == 0 {
-        return Err(Refusal::NoWayRound);
+        return false;
     }
-    room[at] = node;
+    passed.push(node);
     let next = row_of(w, node).succ;
     if next == start {
-        return Ok(at + 1);
+        return true;
     }
     if next == NONE {
-        return Err(Refusal::NoWayRound);
+        return false;
     }
-    roll(w, start, left - 1, next, room, at + 1)
+    comes_back(w, start, left - 1, next, passed)
 }
 
 // 'hub below n? 4. State 2 to 4? 5.' The roll may take in every node once, and is written when it is known that it comes back (16) and that the
@@ -51,13 +51,16 @@ fn roll_from(w: &[u32], node: u32, output: &mut [u32]) -> Result<u32, Refusal>
     if !in_ring(row_of(w, node)) {
         return Err(Refusal::NotInRing);
     }
-    let mut room = [0u32; 64];
-    let length = roll(w, node, n as usize, node, &mut room, 0)?;
-    if output.len() < length {
+    let mut passed = ArrayVec::new();
+    if !comes_back(w, node, n, node, &mut passed) {
+        return Err(Refusal::NoWayRound);
+    }
+    let nodes = passed.as_slice();
+    if output.len() < nodes.len() {
         return Err(Refusal::OutputShort);
     }
-    output[..length].copy_from_slice(&room[..length]);
-    Ok(length as u32)
+    output[..nodes.len()].copy_from_slice(nodes);
+    Ok(nodes.len() as u32)
 }
 
 // The nodes around the ring from a node on, into the output; words of the output behind them keep their content.
