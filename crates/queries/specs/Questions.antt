@@ -1,5 +1,5 @@
 -- The questions of each call, in the words' terms: which facts lead to which refusal, and to the call's result. Assumes nothing.
-use Rattle.std.specs.Prelude.{◌≡◌, true, false, List, [], ◌++◌, ℕ, ◌≤◌, ◌<◌, length, take, drop, Option, None, Some, MatchOption}
+use Rattle.std.specs.Prelude.{◌≡◌, true, false, List, [], ℕ, ◌≤◌, ◌<◌, length, take, drop, Option, None, Some, MatchOption}
 use Rattle.std.proofs.Common.{sym, ◌∙◌}
 use Rattle.std.proofs.Math.Path.{ap}
 use Rattle.std.specs.Option.{ok_or}
@@ -9,16 +9,16 @@ use borrow.Author.Tests.{lt-ltb, le-ltb}
 use Rattle.lists.specs.Choice.{on_yes, on_no}
 use Rattle.lists.specs.Basics.{first}
 use Rattle.std.specs.Prelude.{Err, Ok}
-use Rattle.protocol.specs.declared.refusal.Refusal.TheVariants.{NoHolder, NoHub, NotInRing, NotWellFormed, NoWayRound, OutputShort, RecordShort}
+use Rattle.protocol.specs.declared.refusal.Refusal.TheVariants.{NoHolder, NoHub, NotInRing, NotWellFormed, NoWayRound, RecordShort}
 use Rattle.protocol.specs.Record.{record_size, row_size, row_start, count_in, row, identifier, read}
 use Rattle.protocol.specs.WellFormed.{well_formed}
 use Rattle.protocol.specs.Routing.{in_ring, responsible, covers}
 use Rattle.protocol.specs.Membership.{holds}
-use Rattle.protocol.specs.Calls.{lowest_holder, owner_call, row_call, Traversal, lost, complete, roll, unrolled, roll_written, roll_call}
+use Rattle.protocol.specs.Calls.{lowest_holder, owner_call, row_call, Traversal, lost, roll, unrolled, roll_written, roll_call}
 use Rattle.layout.specs.Words.{count_of_read}
 use Rattle.layout.specs.Form.{Valid}
 use Rattle.layout.specs.Questions.{record_1, record_2, record_rest}
-use Rattle.queries.specs.Rolls.{prepended, none_passed, fits, short}
+use Rattle.queries.specs.Rolls.{prepended, none_passed}
 
 module _ (w : List ℕ) where
   abbrev n : ℕ
@@ -98,24 +98,14 @@ module _ (w : List ℕ) where
       roll_5 l e = record_rest w (unrolled out) _ ok.long ok.formed ∙ on_yes _ _ _ (lt-ltb node n l) ∙ on_no _ _ _ e
 
       module _ (l : node < n) (e : in_ring (row (read w) node) ≡ true) where
-        abbrev around : Traversal
-        around = prepended [] (roll (read w) node n node)
-
-        given : roll_call w node out ≡ roll_written out around
+        pub roll_given : (t : Traversal) → prepended [] (roll (read w) node n node) ≡ t → roll_call w node out ≡ roll_written out t
         unfolding roll_call
-        given =
+        roll_given t r =
             record_rest w (unrolled out) _ ok.long ok.formed
             ∙ on_yes _ _ _ (lt-ltb node n l)
             ∙ on_yes _ _ _ e
-            ∙ ap (roll_written out) (sym (none_passed (roll (read w) node n node)))
+            ∙ ap (roll_written out) (sym (none_passed (roll (read w) node n node)) ∙ r)
 
-        pub roll_16 : around ≡ lost → roll_call w node out ≡ unrolled out NoWayRound
+        pub roll_16 : prepended [] (roll (read w) node n node) ≡ lost → roll_call w node out ≡ unrolled out NoWayRound
         unfolding roll_written
-        roll_16 r = given ∙ ap (roll_written out) r
-
-        pub roll_17 : (l : List ℕ) → around ≡ complete l → length out < length l → roll_call w node out ≡ unrolled out OutputShort
-        roll_17 l r h = given ∙ ap (roll_written out) r ∙ short out l h
-
-        pub roll_given : (l : List ℕ) → around ≡ complete l → length l ≤ length out
-            → roll_call w node out ≡ record { outcome = Ok (length l); output = l ++ drop (length l) out }
-        roll_given l r h = given ∙ ap (roll_written out) r ∙ fits out l h
+        roll_16 = roll_given lost

@@ -1,13 +1,15 @@
 -- A roll that is gathered as succ is followed: the nodes passed, and then the rest of it. Assumes nothing.
-use Rattle.std.specs.Prelude.{◌≡◌, Bool, true, false, List, [], ◌∷◌, ◌++◌, Ok, ℕ, zero, suc, ◌-◌, ◌≤◌, ◌<◌, length, drop, nat_eq}
+use Rattle.std.specs.Prelude.{◌≡◌, Bool, true, false, List, [], ◌∷◌, ◌++◌, Result, Ok, Err, ℕ, zero, suc, ◌-◌, ◌≤◌, ◌<◌, length, drop, nat_eq}
 use Rattle.std.proofs.Math.Path.{refl, ap}
 use Rattle.std.proofs.Common.{sym, ◌∙◌, arith, append_assoc}
 use borrow.Author.Tests.{eq-eqb, ne_eqb, le-leb, lt-leb}
 use Rattle.lists.specs.Basics.{when◌then◌else◌}
 use Rattle.lists.specs.Choice.{on_yes, on_no}
+use Rattle.arrayvec.specs.ArrayVec.{ArrayVec}
+use Rattle.protocol.specs.declared.refusal.Refusal.{Refusal}
 use Rattle.protocol.specs.declared.refusal.Refusal.TheVariants.{OutputShort}
 use Rattle.protocol.specs.Record.{none, State, row}
-use Rattle.protocol.specs.Calls.{Traversal, lost, complete, followed_by, roll, unrolled, roll_written}
+use Rattle.protocol.specs.Calls.{Traversal, lost, complete, followed_by, roll, Rolled, unrolled, roll_written}
 
 -- The nodes passed, and the rest of the roll behind them.
 unfoldable pub prepended : List ℕ → Traversal → Traversal
@@ -18,6 +20,11 @@ prepended l (complete m) = complete (l ++ m)
 unfoldable pub gathered : List ℕ → Bool → Traversal
 gathered l true = complete l
 gathered l false = lost
+
+-- What a roll call leaves in an output, where this is known of the nodes around the ring.
+unfoldable pub handed : List ℕ → Result (ArrayVec ℕ) Refusal → Rolled
+handed out (Err k) = unrolled out k
+handed out (Ok nodes) = roll_written out (complete nodes.items)
 
 pub none_passed : (t : Traversal) → prepended [] t ≡ t
 unfolding prepended

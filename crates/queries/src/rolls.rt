@@ -1,9 +1,9 @@
 // The roll call: 'A roll call from a hub is that hub followed by the roll of its successor, until the start returns'.
-ghost use Rattle.std.specs.Prelude.{◌≡◌, ◌+◌, ◌≤◌, length};
+ghost use Rattle.std.specs.Prelude.{◌≡◌, List, ℕ, ◌+◌, ◌≤◌, length};
 ghost use Rattle.protocol.specs.Record.{most_nodes, read};
 ghost use Rattle.protocol.specs.Calls.{roll, roll_call, numbered, roll_numbers};
 ghost use Rattle.layout.specs.Form.{Valid};
-ghost use Rattle.queries.specs.Rolls.{prepended, gathered};
+ghost use Rattle.queries.specs.Rolls.{prepended, gathered, handed};
 
 use arrayvec::ArrayVec;
 use protocol::Refusal;
@@ -14,13 +14,7 @@ use routing::in_ring;
 // Whether following succ from a node on comes back to the start, where at most so many nodes are left to pass; those that are passed go behind those
 // that were passed before. (The call of itself is the last thing that it does, so the compiler makes a loop of it. That is tried in tests/c/run, since
 // the C calls' stack rests on it.)
-fn comes_back(
-    w: &[u32],
-    start: u32,
-    left: u32,
-    node: u32,
-    passed: &mut ArrayVec<u32, 64>,
-) -> bool
+fn comes_back(w: &[u32], start: u32, left: u32, node: u32, passed: &mut ArrayVec<u32, 64>) -> bool
     requires { (Valid w.now) × (length passed.old.items + left ≤ most_nodes) }
     ensures { prepended passed.old.items (roll (read w.now) start left node) ≡ gathered passed.new.items result }
 {
@@ -38,12 +32,12 @@ fn comes_back(
     comes_back(w, start, left - 1, next, passed)
 }
 
-// 'hub below n? 4. State 2 to 4? 5.' The roll may take in every node once, and is written when it is known that it comes back (16) and that the
-// output has room for it (17).
-fn roll_from(w: &[u32], node: u32, output: &mut [u32]) -> Result<u32, Refusal>
-    requires { Valid w.now }
-    ensures { roll_call w.now node output.old ≡ record { outcome = result; output = output.new } }
+// The nodes around the ring from a node on, each time one that succ leads to: 'hub below n? 4. State 2 to 4? 5. Does following succ come back to the
+// start after at most n hubs? 16.' What a roll call leaves in any output, of words or of bytes, follows.
+pub fn around(w: &[u32], node: u32) -> Result<ArrayVec<u32, 64>, Refusal>
+    ensures { (out : List ℕ) → roll_call w.now node out ≡ handed out result }
 {
+    wellformed::questions(w)?;
     let n = w[1];
     if n <= node {
         return Err(Refusal::NoHub);
@@ -55,12 +49,7 @@ fn roll_from(w: &[u32], node: u32, output: &mut [u32]) -> Result<u32, Refusal>
     if !comes_back(w, node, n, node, &mut passed) {
         return Err(Refusal::NoWayRound);
     }
-    let nodes = passed.as_slice();
-    if output.len() < nodes.len() {
-        return Err(Refusal::OutputShort);
-    }
-    output[..nodes.len()].copy_from_slice(nodes);
-    Ok(nodes.len() as u32)
+    Ok(passed)
 }
 
 // The nodes around the ring from a node on, into the output; words of the output behind them keep their content.
@@ -68,6 +57,11 @@ pub fn roll_call(w: &[u32], node: u32, output: &mut [u32]) -> Result<u32, Refusa
     ensures { (roll_call w.now node output.old ≡ record { outcome = result; output = output.new })
         × (roll_numbers w.now node output.old ≡ numbered output.new result) }
 {
-    wellformed::questions(w)?;
-    roll_from(w, node, output)
+    let roll = around(w, node)?;
+    let nodes = roll.as_slice();
+    if output.len() < nodes.len() {
+        return Err(Refusal::OutputShort);
+    }
+    output[..nodes.len()].copy_from_slice(nodes);
+    Ok(nodes.len() as u32)
 }

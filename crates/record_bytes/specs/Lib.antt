@@ -1,2 +1,1 @@
-pub mod Rolls
 pub mod Results

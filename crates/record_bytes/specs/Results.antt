@@ -1,16 +1,17 @@
 -- What each call for C gives, question by question. Assumes nothing.
-use Rattle.std.specs.Prelude.{◌≡◌, refl, drop}
+use Rattle.std.specs.Prelude.{◌≡◌, refl, Result, drop}
+use Rattle.arrayvec.specs.ArrayVec.{ArrayVec}
 use Rattle.std.proofs.Math.Path.{ap}
 use Rattle.std.proofs.Common.{sym, ◌∙◌, arith, length-set, drop_of_length-le}
 use mathlib.Core.List.{List, [], ◌∷◌, ◌++◌, append-nil}
 use Prim.Native.Nat.{ℕ, ◌*◌, ◌/◌, ◌<◌, ◌≤◌}
-use Rattle.std.proofs.Math.ListN.{length, take}
+use Rattle.std.proofs.Math.ListN.{length}
 use Rattle.std.proofs.lemmas.List.{length-map}
 use borrow.Author.Tests.{le-leb, lt-leb}
 use Rattle.lists.specs.Choice.{on_yes, on_no}
 use Rattle.lists.specs.Basics.{All}
 use Rattle.lists.specs.Blocks.{length_table}
-use Rattle.protocol.specs.Outcomes.{Outcome, Roll}
+use Rattle.protocol.specs.Outcomes.{Outcome}
 use Rattle.protocol.specs.declared.Answer.TheVariants.{Quiet}
 use Rattle.protocol.specs.declared.refusal.Refusal.{Refusal}
 use Rattle.protocol.specs.declared.refusal.Refusal.TheVariants.{IdentifierCount, OutputShort, RecordShort}
@@ -24,8 +25,7 @@ use Rattle.protocol.specs.Calls.{turned_down, written, step_call, fresh_by_call,
 use Rattle.protocol.specs.Bytes.{Byte, words_of, over, bytes_after, carried, fresh_carried, step_bytes, fresh_by_bytes, told, owner_bytes, RollBytes, roll_told, roll_bytes}
 use Rattle.layout.specs.Words.{length_words}
 use Rattle.layout.specs.Questions.{long_yes, long_no, record_1}
-use Rattle.queries.specs.Rolls.{fits, short}
-use Rattle.record_bytes.specs.Rolls.{moved, call_tells, roll_size}
+use Rattle.queries.specs.Rolls.{handed, fits, short}
 use Rattle.word_bytes.specs.First.{with, same_step, same_fresh, same_owner, same_roll}
 use Rattle.layout.specs.Bytes.{back}
 use Rattle.word_bytes.specs.Carry.{word_at, first_words, words_split, words_behind, carried_first, words_all, words_length}
@@ -134,38 +134,33 @@ module _ (b out size : List ℕ) (hub : ℕ) where
         on_yes _ _ _ (le-leb 4 (length size) h)
         ∙ ap (roll_told out size) (record_1 (words_of b) (unrolled (words_of out)) _ (omega (arith, words_length b)))
 
-    -- the roll call on the record alone, and on places of the call's own, gives o and leaves the places s
-    module _ (l : 4 * record_size ≤ length b) (places : List ℕ) (m : most_nodes ≤ length places) where
-      abbrev a : List ℕ
-      a = first_words b record_size
+    -- the nodes around the ring, by the record alone
+    module _ (l : 4 * record_size ≤ length b) where
+      abbrev Around : Result (ArrayVec ℕ) Refusal → Type 0
+      Around r = (o : List ℕ) → roll_call (first_words b record_size) hub o ≡ handed o r
 
-      abbrev Gives : Roll → List ℕ → Type 0
-      Gives o s = roll_call a hub places ≡ record { outcome = o; output = s }
-
-      given : (o : Roll) (s : List ℕ) → Gives o s → roll_bytes b hub out size ≡ roll_told out size (moved (words_of out) s o)
+      given : (r : Result (ArrayVec ℕ) Refusal) → Around r → roll_bytes b hub out size ≡ roll_told out size (handed (words_of out) r)
       unfolding roll_bytes
-      given o s r =
+      given r around =
           on_yes _ _ _ (le-leb 4 (length size) h)
           ∙ ap (λ w. roll_told out size (roll_call w hub (words_of out))) (words_split b record_size l)
-          ∙ ap (roll_told out size) (same_roll a (words_of (drop (4 * record_size) b)) (length_table record_size (word_at b)) hub (words_of out)
-          ∙ (call_tells (words_of out) places a hub m).0
-          ∙ ap (λ z. moved (words_of out) z.output z.outcome) r)
+          ∙ ap (roll_told out size) (same_roll (first_words b record_size) (words_of (drop (4 * record_size) b)) (length_table record_size (word_at b)) hub (words_of out) ∙ around (words_of out))
 
-      pub roll_refused : (k : Refusal) (s : List ℕ) → Gives (Err k) s → roll_bytes b hub out size ≡ unwritten k
-      unfolding roll_told refusal bytes_after number_words over moved
-      roll_refused k s r = given (Err k) s r
+      pub roll_refused : (k : Refusal) → Around (Err k) → roll_bytes b hub out size ≡ unwritten k
+      unfolding roll_told refusal bytes_after number_words over handed
+      roll_refused k around = given (Err k) around
 
-      module _ (n : ℕ) (s : List ℕ) (r : Gives (Ok n) s) where
-        hubs : length (take n s) ≡ n
-        hubs = roll_size a places hub n s m r
+      module _ (v : ArrayVec ℕ) (around : Around (Ok v)) where
+        abbrev n : ℕ
+        n = length v.items
 
         pub roll_17 : length out / 4 < n → roll_bytes b hub out size ≡ unwritten OutputShort
-        unfolding roll_told refusal bytes_after number_words over moved
-        roll_17 f = given (Ok n) s r ∙ ap (roll_told out size) (short (words_of out) (take n s) (omega (arith, hubs, words_length out)))
+        unfolding roll_told refusal bytes_after number_words over handed
+        roll_17 f = given (Ok v) around ∙ ap (roll_told out size) (short (words_of out) v.items (omega (arith, words_length out)))
 
-        pub roll_rest : All Byte out → n ≤ length out / 4 → roll_bytes b hub out size ≡ record { code = 0; roll = over out (take n s); length = over size (n ∷ []) }
-        unfolding roll_told refusal bytes_after number_words moved
+        pub roll_rest : All Byte out → n ≤ length out / 4 → roll_bytes b hub out size ≡ record { code = 0; roll = over out v.items; length = over size (n ∷ []) }
+        unfolding roll_told refusal bytes_after number_words handed
         roll_rest bytes f =
-            given (Ok n) s r
-            ∙ ap (roll_told out size) (fits (words_of out) (take n s) (omega (arith, hubs, words_length out)))
-            ∙ rw (hubs, words_behind out n (omega arith)) (ap (λ x. record { code = 0; roll = x; length = over size (n ∷ []) }) (back out (take n s) n bytes hubs))
+            given (Ok v) around
+            ∙ ap (roll_told out size) (fits (words_of out) v.items (omega (arith, words_length out)))
+            ∙ rw (words_behind out n (omega arith)) (ap (λ x. record { code = 0; roll = x; length = over size (n ∷ []) }) (back out v.items n bytes refl))

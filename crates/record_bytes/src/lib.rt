@@ -40,8 +40,8 @@ pub fn owner(words: &[u8], number: u32, out: &mut [u8]) -> Result<(), Refusal>
     Ok(())
 }
 
-// The nodes around the ring from a node on, by the record in the lent bytes, which are only read, and how many they are. They come to places of the
-// call's own first, where there is always room for a roll, so that it is known how much room they need in the lent ones.
+// The nodes around the ring from a node on, by the record in the lent bytes, which are only read, and how many they are. (Their bytes go over those
+// that are lent, which are not loaded.)
 pub fn roll(words: &[u8], node: u32, roll: &mut [u8], length: &mut [u8]) -> Result<(), Refusal>
     ensures { roll_bytes words.now node roll.old length.old ≡ record { code = refusal result; roll = roll.new; length = length.new } }
 {
@@ -49,12 +49,12 @@ pub fn roll(words: &[u8], node: u32, roll: &mut [u8], length: &mut [u8]) -> Resu
         return Err(Refusal::OutputShort);
     }
     let w = checked::<RECORD_WORDS>(words)?;
-    let mut places = [0u32; 64];
-    let count = queries::roll_call(&w, node, &mut places)?;
-    if roll.len() / 4 < count as usize {
+    let around = queries::around(&w, node)?;
+    let nodes = around.as_slice();
+    if roll.len() / 4 < nodes.len() {
         return Err(Refusal::OutputShort);
     }
-    save(roll, &places[..count as usize]);
-    save(length, &[count]);
+    save(roll, nodes);
+    save(length, &[nodes.len() as u32]);
     Ok(())
 }

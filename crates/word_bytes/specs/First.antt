@@ -1,5 +1,5 @@
 -- The calls look only at the first 1,988 words of a longer list, and leave the others alone. Assumes nothing.
-use Rattle.std.specs.Prelude.{◌≡◌, Bool, true, false, T, ◌&&◌, List, [], ◌++◌, ℕ, ◌≤◌, nat_le, nat_lt, length, take, drop}
+use Rattle.std.specs.Prelude.{◌≡◌, Bool, true, false, ◌&&◌, List, [], ◌++◌, ℕ, ◌≤◌, nat_le, nat_lt, length, take, drop}
 use Rattle.std.proofs.Math.Path.{refl, ap}
 use Rattle.std.proofs.Common.{sym, ◌∙◌, append_assoc, append-nil, arith, length-append, drop_of_length-le, take_at}
 use Rattle.std.proofs.Math.ListN.{get_or-append}
@@ -111,11 +111,11 @@ module _ (a t : List ℕ) (e : length a ≡ record_size) where
           (require (in_ring (row (read w) hub)) (unrolled out NotInRing)
           (roll_written out (roll (read w) hub (count_in w) hub)))
 
--- a question asked of two calls, and what holds of both results
-pub same_question : {A B : Type 0} (R : A → B → Type 0) (b : Bool) (x y : A) (x' y' : B) → R x x' → (T b → R y y') → R (require b x y) (require b x' y')
+-- a question asked of two calls
+same_question : {A X : Type 0} (f : A → X) (b : Bool) (x y x' y' : A) → f x ≡ f x' → f y ≡ f y' → f (require b x y) ≡ f (require b x' y')
 unfolding require when◌then◌else◌
-same_question R true x y x' y' p q = q tt
-same_question R false x y x' y' p q = p
+same_question f true x y x' y' p q = q
+same_question f false x y x' y' p q = p
 
 -- a fresh call does not read the words: what is made of its result may be made of that on other words
 pub same_fresh : {X : Type 0} (f : Called → X) (w z ids : List ℕ) (founder : ℕ) → record_size ≤ length w → record_size ≤ length z
@@ -125,9 +125,6 @@ pub same_fresh : {X : Type 0} (f : Called → X) (w z ids : List ℕ) (founder :
 unfolding fresh_by_call
 same_fresh f w z ids founder l m n r =
     ap f (on_yes _ _ _ (long_yes w l))
-    ∙ same_question R (nat_le 1 (length ids) && nat_le (length ids) most_nodes) _ _ _ _ (n IdentifierCount)
-    (λ _. same_question R (distinct ids) _ _ _ _ (n IdentifierTwice) (λ _. same_question R (nat_lt founder (length ids)) _ _ _ _ (n NoFounder) (λ _. r)))
+    ∙ same_question f (nat_le 1 (length ids) && nat_le (length ids) most_nodes) _ _ _ _ (n IdentifierCount)
+    (same_question f (distinct ids) _ _ _ _ (n IdentifierTwice) (same_question f (nat_lt founder (length ids)) _ _ _ _ (n NoFounder) r))
     ∙ sym (ap f (on_yes _ _ _ (long_yes z m)))
-  where
-    R : Called → Called → Type 0
-    R c d = f c ≡ f d
