@@ -1,6 +1,6 @@
 /*
  * A small modem server: frames come in, one a line, are carried out on a record that this program owns, and answers go out. Beside the record it
- * keeps the price cards, which change hub as hubs enter and go. It speaks the frames of `ringrun`, and adds four of its own:
+ * keeps the price cards, which change hub as hubs enter and go. It speaks the frames of `ringrun`, and adds five of its own:
  *
  *   'O' and 8 digits of a number           who holds it: prints the hub in 2 digits
  *   'C' and 8 digits each of machine,      a card is offered: prints quiet, 24 digits 0, or 'EE' and the number of the refusal
@@ -9,6 +9,9 @@
  *                                          a card is held by nobody: EE0F
  *   'R' and 8 digits of a hub, then        a driver's route: the numbers are asked at the hub in one call. Prints a line for each, as if it were
  *       8 of each of 1 to 64 numbers       asked alone
+ *   'L' and 8 digits of a hub              the list of the depots in service, clockwise from that hub on: prints the roll from it on one line, 2
+ *                                          digits a hub. While messages wait the roll is no such list, so it is not called: prints 'W' and
+ *                                          how many wait in 4 digits, whatever the hub is
  *
  * A frame of `ringrun` may begin with C too, but has 18 digits: no frame is taken for another.
  */
@@ -19,6 +22,7 @@
 
 #define LONGEST_FRAME 521 /* R, a hub and 64 numbers of 8 digits; F0 and 64 identifiers have 514 */
 #define OFFER_FRAME 25
+#define WAITING 2u     /* the word of the record that says how many messages wait */
 #define FIRST_CARD 65u /* the word of the cards where the first one begins; each has four: machine, revision, price, hub */
 
 static uint8_t words[RING_RECORD_BYTES]; /* all 0 until a ring is founded: a command or an offer is then refused by 2 */
@@ -125,6 +129,25 @@ static int route(const char *line, size_t length)
     return 1;
 }
 
+static int list(const char *line, size_t length)
+{
+    uint8_t hubs[RING_ROLL_BYTES], count[RING_LENGTH_BYTES];
+    uint32_t hub, waiting = ring_word(words, WAITING);
+    if (length != 9 || !number(line + 1, 8, &hub)) return 0;
+    if (waiting != 0) {
+        printf("W%04X\n", (unsigned)waiting);
+        return 1;
+    }
+    uint32_t refusal = ring_roll(words, sizeof words, hub, hubs, sizeof hubs, count, sizeof count);
+    if (refusal != RING_OK) {
+        say_refused(refusal);
+        return 1;
+    }
+    for (uint32_t i = 0; i < ring_word(count, 0); i++) printf("%02X", (unsigned)ring_word(hubs, i));
+    putchar('\n');
+    return 1;
+}
+
 static int offer(const char *line)
 {
     uint32_t machine, revision, price;
@@ -157,6 +180,7 @@ static void answer(const char *line, size_t length)
         else if (length >= 1 && line[0] == 'O') readable = owner(line, length);
         else if (length >= 1 && line[0] == 'P') readable = price(line, length);
         else if (length >= 1 && line[0] == 'R') readable = route(line, length);
+        else if (length >= 1 && line[0] == 'L') readable = list(line, length);
         else if (length == OFFER_FRAME && line[0] == 'C') readable = offer(line);
         else readable = command(line, length);
     }

@@ -138,6 +138,7 @@ int main(void)
         foundings();
         ranges();
         routes();
+        rolls();
         sheets();
         price_cards();
         step_at_each_length();

@@ -25,6 +25,12 @@ void expect(int holds, const char *what);
 /* Puts word i of a buffer of words: what ring_word reads there. */
 void put(uint8_t *bytes, size_t i, uint32_t value);
 
+/* A record of hubs with these rows and no message. */
+void put_rows(uint8_t *record, const uint32_t (*rows)[7], uint32_t n);
+
+/* And one of n hubs, all inside, in a ring in the order of their numbers. */
+void put_circle(uint8_t *record, uint32_t n);
+
 struct buffer {
     uint8_t *all, *bytes;
     size_t len;
@@ -42,11 +48,12 @@ int unchanged(const struct buffer *b, const uint8_t *content, size_t content_len
 #define LENGTHS 12
 extern const size_t lengths[LENGTHS];
 
-/* The tests of the calls that found a ring (founding.c), of ranges (ranges.c), of a route's questions (routes.c), of the calls on an office sheet
- * (sheet.c), and of those with price cards (cards.c). */
+/* The tests of the calls that found a ring (founding.c), of ranges (ranges.c), of a route's questions (routes.c), of rolls (rolls.c), of the calls
+ * on an office sheet (sheet.c), and of those with price cards (cards.c). */
 void foundings(void);
 void ranges(void);
 void routes(void);
+void rolls(void);
 void sheets(void);
 void price_cards(void);
 

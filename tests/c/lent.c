@@ -1,4 +1,4 @@
-/* Buffers as they are lent to a call, and the count of what was expected. See buffers.h. */
+/* Buffers as they are lent to a call, records that are put together for one, and the count of what was expected. See buffers.h. */
 #include <stdio.h>
 
 #include "buffers.h"
@@ -22,6 +22,22 @@ void expect(int holds, const char *what)
 void put(uint8_t *bytes, size_t i, uint32_t value)
 {
     for (size_t k = 0; k < 4; k++) bytes[4 * i + k] = (uint8_t)(value >> 8 * k);
+}
+
+void put_rows(uint8_t *record, const uint32_t (*rows)[7], uint32_t n)
+{
+    memset(record, 0, RING_RECORD_BYTES);
+    put(record, 0, 1);
+    put(record, 1, n);
+    for (size_t k = 0; k < 7 * (size_t)n; k++) put(record, 4 + k, rows[k / 7][k % 7]);
+}
+
+void put_circle(uint8_t *record, uint32_t n)
+{
+    uint32_t rows[RING_MOST_HUBS][7];
+    for (uint32_t hub = 0; hub < n; hub++)
+        memcpy(rows[hub], (const uint32_t[]){hub * 0x04000000u, RING_INSIDE, 0, 0, (hub + n - 1) % n, (hub + 1) % n, NONE}, sizeof rows[hub]);
+    put_rows(record, (const uint32_t(*)[7])rows, n);
 }
 
 struct buffer lend(const uint8_t *content, size_t content_len, size_t len)

@@ -9,11 +9,8 @@
 static void ranged(uint8_t *record, uint32_t a, uint32_t b)
 {
     uint32_t pred = a == b ? 0 : 1;
-    uint32_t rows[2][7] = {{b, RING_INSIDE, 0, 0, pred, 0, NONE}, {a, RING_OUTSIDE, 0, 0, NONE, NONE, NONE}};
-    memset(record, 0, RING_RECORD_BYTES);
-    put(record, 0, 1);
-    put(record, 1, pred + 1);
-    for (size_t k = 0; k < 7 * (pred + 1); k++) put(record, 4 + k, rows[k / 7][k % 7]);
+    const uint32_t rows[2][7] = {{b, RING_INSIDE, 0, 0, pred, 0, NONE}, {a, RING_OUTSIDE, 0, 0, NONE, NONE, NONE}};
+    put_rows(record, rows, pred + 1);
 }
 
 /* That both calls say so. */

@@ -161,15 +161,6 @@ static void questions(const uint8_t *record)
     asks(damaged, &one, exact(&one), RING_NOT_WELL_FORMED, "route: a last byte that is not 0: 2");
 }
 
-/* A record put together here, of hubs with these rows and no message. */
-static void put_rows(uint8_t *record, const uint32_t (*rows)[7], uint32_t n)
-{
-    memset(record, 0, RING_RECORD_BYTES);
-    put(record, 0, 1);
-    put(record, 1, n);
-    for (size_t k = 0; k < 7 * (size_t)n; k++) put(record, 4 + k, rows[k / 7][k % 7]);
-}
-
 /* Hubs in every state, and none: a hub that cannot be asked is no refusal of the call but the outcome of each question. */
 static void at_each_hub(void)
 {
@@ -229,11 +220,8 @@ static void running_out(const uint8_t *two)
 static void in_use(void)
 {
     static uint8_t record[RING_RECORD_BYTES], outcomes[RING_PLACE_BYTES * 64], answer[RING_ANSWER_BYTES];
-    static uint32_t rows[64][7];
     unsigned refused = 0;
-    for (uint32_t hub = 0; hub < 64; hub++)
-        memcpy(rows[hub], (const uint32_t[]){hub * 0x04000000u, RING_INSIDE, 0, 0, (hub + 63) % 64, (hub + 1) % 64, NONE}, sizeof rows[hub]);
-    put_rows(record, (const uint32_t(*)[7])rows, 64);
+    put_circle(record, 64);
     for (uint32_t hub = 0; hub < 64; hub++) {
         struct route r = spread(hub, 64);
         accepts(record, &r, exact(&r), outcomes);
