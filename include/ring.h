@@ -29,6 +29,8 @@ extern "C" {
 #define RING_RECORD_BYTES 7952u /* a ring record: the least that `words` must have */
 #define RING_ANSWER_BYTES 20u   /* a step's answer: the least that `out` must have */
 #define RING_OWNER_BYTES 4u     /* the owner query's answer: the least that `out` must have */
+#define RING_LENGTH_BYTES 4u    /* how many hubs a roll has: the least that `length` must have */
+#define RING_ROLL_BYTES 256u    /* the roll of RING_MOST_HUBS hubs: no ring needs more for `roll` */
 #define RING_COUNTS_BYTES 16u   /* the counts of a sheet read or written: the least that `counts` must have */
 #define RING_CARDS_BYTES 8452u  /* a card slice: the least that `cards` must have */
 #define RING_PLACE_BYTES 24u    /* the outcome of one question of a route: `outcomes` must have so many for each number */
@@ -42,7 +44,7 @@ extern "C" {
 /* The most numbers that a route asks in one call. */
 #define RING_MOST_QUESTIONS 64u
 
-/* What a call returns. The numbers are those of the ring's documents; no call of this header returns 16, the roll call's. */
+/* What a call returns. The numbers are those of the ring's documents. */
 enum ring_code {
     RING_OK = 0,
     RING_RECORD_SHORT = 1,    /* `words` has fewer than RING_RECORD_BYTES bytes, or `cards` fewer than RING_CARDS_BYTES */
@@ -60,8 +62,8 @@ enum ring_code {
     RING_IDENTIFIER_COUNT = 13, /* fresh: not 1 to 64 identifiers */
     RING_IDENTIFIER_TWICE = 14, /* fresh: two identifiers are equal */
     RING_NO_HOLDER = 15,      /* owner: no hub holds the number */
-    RING_NO_WAY_ROUND = 16,   /* roll call: following the successors does not come back */
-    RING_OUTPUT_SHORT = 17,   /* `out`, or `counts`, is too short: asked before anything else */
+    RING_NO_WAY_ROUND = 16,   /* roll: following the successors does not come back to the hub, or comes to a hub that has none */
+    RING_OUTPUT_SHORT = 17,   /* `out`, `counts` or `length` is too short: asked before anything else; or `roll` is: asked last */
     RING_NO_FOUNDER = 18,     /* fresh: the founder named is not below the number of hubs */
     RING_NO_SHEET = 19,       /* sheet: the text is none, or the names to be written are not one for each identifier */
     RING_IDENTIFIER_TOO_LARGE = 20, /* sheet: an identifier is above 4294967295 */
@@ -160,6 +162,23 @@ uint32_t ring_route(uint8_t *words, size_t words_len, uint32_t hub, const uint8_
  * Returns RING_OK, RING_OUTPUT_SHORT, RING_RECORD_SHORT, RING_NOT_WELL_FORMED or RING_NO_HOLDER.
  */
 uint32_t ring_owner(const uint8_t *words, size_t words_len, uint32_t number, uint8_t *out, size_t out_len);
+
+/*
+ * ring_roll - the roll from a hub on: that hub, its successor, the successor's successor, until the hub itself comes again.
+ *
+ *   words, words_len    the record, only read; length in bytes
+ *   hub                 the hub that the roll begins with; any number may be given
+ *   roll, roll_len      gets the hubs, a word each; RING_ROLL_BYTES bytes are always enough. Bytes behind the roll stay as they are
+ *   length, length_len  gets how many hubs the roll has, as one word in RING_LENGTH_BYTES bytes; bytes behind it stay as they are
+ *
+ * Where the record comes from a fresh call and steps, and no message waits, the roll is the list of the depots in service, each one time, clockwise
+ * from the hub on. How many messages wait is ring_word(words, 2). While any waits, the roll is no such list: a depot that enters or goes may be
+ * missing or still be in it, and from one that enters there may be no way round.
+ *
+ * Returns RING_OK, RING_OUTPUT_SHORT (for length), RING_RECORD_SHORT, RING_NOT_WELL_FORMED, RING_NO_HUB, RING_NOT_IN_RING, RING_NO_WAY_ROUND or
+ * RING_OUTPUT_SHORT (for roll), in this order.
+ */
+uint32_t ring_roll(const uint8_t *words, size_t words_len, uint32_t hub, uint8_t *roll, size_t roll_len, uint8_t *length, size_t length_len);
 
 /*
  * Price cards. A card slice is 2,113 words, as bytes like the record: the number of cards; for each of 64 hubs 1 from its RING_ENTERED (or its

@@ -20,7 +20,7 @@ use Rattle.layout.specs.Form.{Valid, valid}
 use Rattle.layout.specs.Bytes.{back}
 use Rattle.layout.specs.Asks.{ask_again}
 use Rattle.word_bytes.specs.First.{same_formed, same_step}
-use Rattle.word_bytes.specs.Carry.{word_at, first_words, words_split, words_all, words_length}
+use Rattle.word_bytes.specs.Carry.{word_at, first_words, words_split, words_behind, words_all, words_length}
 use Rattle.batches.specs.Each.{length_asked, each_valid, place_size_lem, batch_1, batch_2, batch_25, batch_26, batch_rest}
 
 -- Words behind the record stay behind it: the questions look at the record alone.
@@ -107,9 +107,6 @@ module _ (b : List ℕ) (hub : ℕ) (numbers out : List ℕ) where
           in_places : length (flat place_words done.outcomes) ≡ p
           in_places = length_flat place_words place_size place_size_lem done.outcomes ∙ ap (λ k. place_size * k) (length_asked a hub ns)
 
-          behind : drop p (words_of out) ≡ words_of (drop (4 * p) out)
-          behind = ap (drop p) (words_split out p (omega (arith, count))) ∙ drop_at (first_words out p) (words_of (drop (4 * p) out)) p (length_table p (word_at out))
-
           on_words : batch_call (words_of b) hub (words_of numbers) (words_of out) ≡ batch_written ns (words_of out) (with t done)
           unfolding batch_call
           on_words =
@@ -126,7 +123,7 @@ module _ (b : List ℕ) (hub : ℕ) (numbers out : List ℕ) where
               ap given on_words
               ∙ ap (λ x. record { code = 0; bytes = x; output = over out (flat place_words done.outcomes ++ drop p (words_of out)) })
               (back b done.slice record_size hb ((each_valid a loaded_valid hub ns).length ∙ size))
-              ∙ ap (λ x. record { code = 0; bytes = over b done.slice; output = over out (flat place_words done.outcomes ++ x) }) behind
+              ∙ ap (λ x. record { code = 0; bytes = over b done.slice; output = over out (flat place_words done.outcomes ++ x) }) (words_behind out p (omega (arith, count)))
               ∙ ap (λ x. record { code = 0; bytes = over b done.slice; output = x }) (back out (flat place_words done.outcomes) p ho in_places)
               ∙ ap (λ x. record { code = 0; bytes = over b x; output = over out (flat place_words done.outcomes) }) (ap (λ (c : BatchCalled). c.slice) e)
               ∙ ap (λ x. record { code = 0; bytes = over b z; output = over out x })

@@ -9,16 +9,16 @@ use borrow.Author.Tests.{lt-ltb, le-ltb}
 use Rattle.lists.specs.Choice.{on_yes, on_no}
 use Rattle.lists.specs.Basics.{first}
 use Rattle.std.specs.Prelude.{Err, Ok}
-use Rattle.protocol.specs.declared.refusal.Refusal.TheVariants.{NoHolder, NoHub, NotInRing, NotWellFormed, RecordShort}
+use Rattle.protocol.specs.declared.refusal.Refusal.TheVariants.{NoHolder, NoHub, NotInRing, NotWellFormed, NoWayRound, RecordShort}
 use Rattle.protocol.specs.Record.{record_size, row_size, row_start, count_in, row, identifier, read}
 use Rattle.protocol.specs.WellFormed.{well_formed}
 use Rattle.protocol.specs.Routing.{in_ring, responsible, covers}
 use Rattle.protocol.specs.Membership.{holds}
-use Rattle.protocol.specs.Calls.{lowest_holder, owner_call, row_call, roll, unrolled, roll_call}
+use Rattle.protocol.specs.Calls.{lowest_holder, owner_call, row_call, Traversal, lost, roll, unrolled, roll_written, roll_call}
 use Rattle.layout.specs.Words.{count_of_read}
 use Rattle.layout.specs.Form.{Valid}
 use Rattle.layout.specs.Questions.{record_1, record_2, record_rest}
-use Rattle.queries.specs.Rolls.{rolled_from, from_start}
+use Rattle.queries.specs.Rolls.{prepended, none_passed}
 
 module _ (w : List ℕ) where
   abbrev n : ℕ
@@ -97,10 +97,15 @@ module _ (w : List ℕ) where
       unfolding roll_call
       roll_5 l e = record_rest w (unrolled out) _ ok.long ok.formed ∙ on_yes _ _ _ (lt-ltb node n l) ∙ on_no _ _ _ e
 
-      pub roll_given : node < n → in_ring (row (read w) node) ≡ true → roll_call w node out ≡ rolled_from out 0 (roll (read w) node n node)
-      unfolding roll_call
-      roll_given l e =
-          record_rest w (unrolled out) _ ok.long ok.formed
-          ∙ on_yes _ _ _ (lt-ltb node n l)
-          ∙ on_yes _ _ _ e
-          ∙ from_start out (roll (read w) node n node)
+      module _ (l : node < n) (e : in_ring (row (read w) node) ≡ true) where
+        pub roll_given : (t : Traversal) → prepended [] (roll (read w) node n node) ≡ t → roll_call w node out ≡ roll_written out t
+        unfolding roll_call
+        roll_given t r =
+            record_rest w (unrolled out) _ ok.long ok.formed
+            ∙ on_yes _ _ _ (lt-ltb node n l)
+            ∙ on_yes _ _ _ e
+            ∙ ap (roll_written out) (sym (none_passed (roll (read w) node n node)) ∙ r)
+
+        pub roll_16 : prepended [] (roll (read w) node n node) ≡ lost → roll_call w node out ≡ unrolled out NoWayRound
+        unfolding roll_written
+        roll_16 = roll_given lost

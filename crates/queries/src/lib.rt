@@ -9,5 +9,5 @@ mod rolls;
 mod rows;
 
 pub use owners::owner;
-pub use rolls::roll_call;
+pub use rolls::{around, roll_call};
 pub use rows::hub_row;

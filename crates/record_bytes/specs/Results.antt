@@ -1,8 +1,9 @@
 -- What each call for C gives, question by question. Assumes nothing.
-use Rattle.std.specs.Prelude.{◌≡◌, refl, drop}
+use Rattle.std.specs.Prelude.{◌≡◌, refl, Result, drop}
+use Rattle.arrayvec.specs.ArrayVec.{ArrayVec}
 use Rattle.std.proofs.Math.Path.{ap}
-use Rattle.std.proofs.Common.{sym, ◌∙◌, arith, length-set, drop_of_length-le, drop_at}
-use mathlib.Core.List.{List, [], ◌++◌, append-nil}
+use Rattle.std.proofs.Common.{sym, ◌∙◌, arith, length-set, drop_of_length-le}
+use mathlib.Core.List.{List, [], ◌∷◌, ◌++◌, append-nil}
 use Prim.Native.Nat.{ℕ, ◌*◌, ◌/◌, ◌<◌, ◌≤◌}
 use Rattle.std.proofs.Math.ListN.{length}
 use Rattle.std.proofs.lemmas.List.{length-map}
@@ -18,15 +19,16 @@ use Rattle.protocol.specs.Refusals.{number_of}
 use Rattle.protocol.specs.Record.{most_nodes, most_messages, record_size, count, words}
 use Rattle.protocol.specs.Fresh.{fresh}
 use Rattle.protocol.specs.Step.{accepted}
-use Rattle.std.specs.Prelude.{Err}
+use Rattle.std.specs.Prelude.{Err, Ok}
 use Rattle.protocol.specs.Answers.{refusal, outcome_words, number_words}
-use Rattle.protocol.specs.Calls.{turned_down, written, step_call, fresh_by_call, owner_call}
-use Rattle.protocol.specs.Bytes.{Byte, words_of, over, bytes_after, carried, fresh_carried, step_bytes, fresh_by_bytes, told, owner_bytes}
+use Rattle.protocol.specs.Calls.{turned_down, written, step_call, fresh_by_call, owner_call, unrolled, roll_call}
+use Rattle.protocol.specs.Bytes.{Byte, words_of, over, bytes_after, carried, fresh_carried, step_bytes, fresh_by_bytes, told, owner_bytes, RollBytes, roll_told, roll_bytes}
 use Rattle.layout.specs.Words.{length_words}
 use Rattle.layout.specs.Questions.{long_yes, long_no, record_1}
-use Rattle.word_bytes.specs.First.{with, same_step, same_fresh, same_owner}
+use Rattle.queries.specs.Rolls.{handed, fits, short}
+use Rattle.word_bytes.specs.First.{with, same_step, same_fresh, same_owner, same_roll}
 use Rattle.layout.specs.Bytes.{back}
-use Rattle.word_bytes.specs.Carry.{word_at, first_words, words_split, carried_first, words_all, words_length}
+use Rattle.word_bytes.specs.Carry.{word_at, first_words, words_split, words_behind, carried_first, words_all, words_length}
 
 -- a fresh ring has a row for each identifier, and no message
 fresh_count : (ids : List ℕ) (f : ℕ) → length ids ≤ most_nodes → count (fresh ids f) ≤ most_nodes
@@ -89,15 +91,12 @@ module _ (b ids : List ℕ) (f : ℕ) where
       refused_same : (k : Refusal) → fresh_carried b (turned_down (words_of b) k) ≡ fresh_carried b (turned_down z k)
       refused_same k = refl
 
-      behind : drop record_size (words_of b) ≡ words_of (drop (4 * record_size) b)
-      behind = ap (drop record_size) (words_split b record_size l) ∙ drop_at (first_words b record_size) _ record_size (length_table record_size (word_at b))
-
       size : length (words (fresh i f)) ≡ record_size
       size = length_words (fresh i f) [] (fresh_count i f (omega (arith, length_table (length ids / 4) (word_at ids)))) (fresh_quiet i f)
 
       accepted_same : fresh_carried b (written (words_of b) (accepted Quiet (fresh i f))) ≡ fresh_carried b (written z (accepted Quiet (fresh i f)))
       accepted_same =
-          ap (λ l. record { code = 0; bytes = over b (words (fresh i f) ++ l) }) behind
+          ap (λ l. record { code = 0; bytes = over b (words (fresh i f) ++ l) }) (words_behind b record_size l)
           ∙ ap (λ l. record { code = 0; bytes = l }) (back b (words (fresh i f)) record_size bytes size)
           ∙ ap (λ l. record { code = 0; bytes = over b l }) (sym (append-nil (words (fresh i f))) ∙ ap (λ l. words (fresh i f) ++ l) (sym (drop_of_length-le z {i = record_size} (omega arith))))
 
@@ -119,3 +118,49 @@ module _ (b out : List ℕ) (number : ℕ) where
       on_yes _ _ _ (le-leb 4 (length out) h)
       ∙ ap (λ w. told out (owner_call w number)) (words_split b record_size l)
       ∙ ap (told out) (same_owner (first_words b record_size) (words_of (drop (4 * record_size) b)) (length_table record_size (word_at b)) number)
+
+module _ (b out size : List ℕ) (hub : ℕ) where
+  abbrev unwritten : Refusal → RollBytes
+  unwritten k = record { code = number_of k; roll = out; length = size }
+
+  pub roll_length_17 : length size < 4 → roll_bytes b hub out size ≡ unwritten OutputShort
+  unfolding roll_bytes
+  roll_length_17 h = on_no _ _ _ (lt-leb 4 (length size) h)
+
+  module _ (h : 4 ≤ length size) where
+    pub roll_1 : length b < 4 * record_size → roll_bytes b hub out size ≡ unwritten RecordShort
+    unfolding roll_bytes roll_call roll_told refusal bytes_after number_words over
+    roll_1 l =
+        on_yes _ _ _ (le-leb 4 (length size) h)
+        ∙ ap (roll_told out size) (record_1 (words_of b) (unrolled (words_of out)) _ (omega (arith, words_length b)))
+
+    -- the nodes around the ring, by the record alone
+    module _ (l : 4 * record_size ≤ length b) where
+      abbrev Around : Result (ArrayVec ℕ) Refusal → Type 0
+      Around r = (o : List ℕ) → roll_call (first_words b record_size) hub o ≡ handed o r
+
+      given : (r : Result (ArrayVec ℕ) Refusal) → Around r → roll_bytes b hub out size ≡ roll_told out size (handed (words_of out) r)
+      unfolding roll_bytes
+      given r around =
+          on_yes _ _ _ (le-leb 4 (length size) h)
+          ∙ ap (λ w. roll_told out size (roll_call w hub (words_of out))) (words_split b record_size l)
+          ∙ ap (roll_told out size) (same_roll (first_words b record_size) (words_of (drop (4 * record_size) b)) (length_table record_size (word_at b)) hub (words_of out) ∙ around (words_of out))
+
+      pub roll_refused : (k : Refusal) → Around (Err k) → roll_bytes b hub out size ≡ unwritten k
+      unfolding roll_told refusal bytes_after number_words over handed
+      roll_refused k around = given (Err k) around
+
+      module _ (v : ArrayVec ℕ) (around : Around (Ok v)) where
+        abbrev n : ℕ
+        n = length v.items
+
+        pub roll_17 : length out / 4 < n → roll_bytes b hub out size ≡ unwritten OutputShort
+        unfolding roll_told refusal bytes_after number_words over handed
+        roll_17 f = given (Ok v) around ∙ ap (roll_told out size) (short (words_of out) v.items (omega (arith, words_length out)))
+
+        pub roll_rest : All Byte out → n ≤ length out / 4 → roll_bytes b hub out size ≡ record { code = 0; roll = over out v.items; length = over size (n ∷ []) }
+        unfolding roll_told refusal bytes_after number_words handed
+        roll_rest bytes f =
+            given (Ok v) around
+            ∙ ap (roll_told out size) (fits (words_of out) v.items (omega (arith, words_length out)))
+            ∙ rw (words_behind out n (omega arith)) (ap (λ x. record { code = 0; roll = x; length = over size (n ∷ []) }) (back out v.items n bytes refl))

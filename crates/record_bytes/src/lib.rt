@@ -6,7 +6,7 @@ mod foundings;
 
 ghost use Rattle.std.specs.Prelude.{◌≡◌};
 ghost use Rattle.protocol.specs.Answers.{refusal};
-ghost use Rattle.protocol.specs.Bytes.{step_bytes, owner_bytes};
+ghost use Rattle.protocol.specs.Bytes.{step_bytes, owner_bytes, roll_bytes};
 
 pub use crate::foundings::fresh;
 use protocol::Refusal;
@@ -37,5 +37,24 @@ pub fn owner(words: &[u8], number: u32, out: &mut [u8]) -> Result<(), Refusal>
     let w = checked::<RECORD_WORDS>(words)?;
     let hub = queries::owner(&w, number)?;
     save(out, &[hub]);
+    Ok(())
+}
+
+// The nodes around the ring from a node on, by the record in the lent bytes, which are only read, and how many they are. (Their bytes go over those
+// that are lent, which are not loaded.)
+pub fn roll(words: &[u8], node: u32, roll: &mut [u8], length: &mut [u8]) -> Result<(), Refusal>
+    ensures { roll_bytes words.now node roll.old length.old ≡ record { code = refusal result; roll = roll.new; length = length.new } }
+{
+    if length.len() < 4 {
+        return Err(Refusal::OutputShort);
+    }
+    let w = checked::<RECORD_WORDS>(words)?;
+    let around = queries::around(&w, node)?;
+    let nodes = around.as_slice();
+    if roll.len() / 4 < nodes.len() {
+        return Err(Refusal::OutputShort);
+    }
+    save(roll, nodes);
+    save(length, &[nodes.len() as u32]);
     Ok(())
 }

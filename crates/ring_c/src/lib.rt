@@ -4,7 +4,7 @@
 
 ghost use Rattle.std.specs.Prelude.{◌≡◌};
 ghost use Rattle.protocol.specs.Answers.{refusal};
-ghost use Rattle.protocol.specs.Bytes.{step_bytes, owner_bytes, fresh_bytes, fresh_by_bytes};
+ghost use Rattle.protocol.specs.Bytes.{step_bytes, owner_bytes, roll_bytes, fresh_bytes, fresh_by_bytes};
 ghost use Rattle.protocol.specs.CardBytes.{step_cards_bytes, offer_bytes, fresh_cards_bytes, fresh_by_cards_bytes};
 ghost use Rattle.protocol.specs.Batch.{batch_bytes};
 ghost use Rattle.sheet_bytes.specs.Told.{sheet_read, sheet_write};
@@ -35,6 +35,14 @@ pub extern "C" fn ring_owner(words: &[u8], number: u32, out: &mut [u8]) -> u32
     ensures { owner_bytes words.now number out.old ≡ record { code = result; output = out.new } }
 {
     code(record_bytes::owner(words, number, out))
+}
+
+// The nodes around the ring from a node on, by the record in the lent bytes, which are only read, and how many they are.
+#[unsafe(no_mangle)]
+pub extern "C" fn ring_roll(words: &[u8], node: u32, roll: &mut [u8], length: &mut [u8]) -> u32
+    ensures { roll_bytes words.now node roll.old length.old ≡ record { code = result; roll = roll.new; length = length.new } }
+{
+    code(record_bytes::roll(words, node, roll, length))
 }
 
 // A ring founded in the lent bytes by the node with the smallest identifier.

@@ -3,7 +3,7 @@ use Rattle.std.specs.Prelude.{◌≡◌, List, [], ◌∷◌, ◌++◌, ℕ, zer
 use Rattle.std.specs.Int.{w32, from_le_bytes}
 use Rattle.std.specs.Simd.{first_chunks}
 use Rattle.std.proofs.Math.Path.{refl, ap}
-use Rattle.std.proofs.Common.{sym, ◌∙◌, append_assoc, append-nil, add_assoc, arith, add-one, length-drop, take-suc, drop-drop, drop-cons, length-take-le, take-suc-set}
+use Rattle.std.proofs.Common.{sym, ◌∙◌, append_assoc, append-nil, add_assoc, arith, add-one, length-drop, drop_at, take-suc, drop-drop, drop-cons, length-take-le, take-suc-set}
 use Rattle.lists.specs.Basics.{All, table}
 use Rattle.lists.specs.Blocks.{flat_append, length_flat, length_table}
 use Rattle.lists.specs.Splice.{splice, splice_at}
@@ -68,6 +68,10 @@ words_split b (suc n) h =
     words_split b n (omega arith)
     ∙ ap (λ l. first_words b n ++ words_of l) (four_more b n (omega arith))
     ∙ sym (append_assoc (first_words b n) (word_at b n ∷ []) (words_of (drop (4 * suc n) b)))
+
+-- those behind the first n
+pub words_behind : (b : List ℕ) (n : ℕ) → 4 * n ≤ length b → drop n (words_of b) ≡ words_of (drop (4 * n) b)
+words_behind b n h = ap (drop n) (words_split b n h) ∙ drop_at (first_words b n) (words_of (drop (4 * n) b)) n (length_table n (word_at b))
 
 -- writing: the first i of the words
 pub over_none : (b w : List ℕ) → b ≡ over b (take 0 w)

@@ -8,11 +8,12 @@ use Rattle.lists.specs.Basics.{when◌then◌else◌, require, distinct}
 use Rattle.lists.specs.Choice.{on_yes}
 use Rattle.lists.specs.Tests.{says_same, T_true, true_T}
 use Rattle.protocol.specs.declared.refusal.Refusal.{Refusal}
-use Rattle.protocol.specs.declared.refusal.Refusal.TheVariants.{IdentifierCount, IdentifierTwice, NoFounder, NoHolder, NotWellFormed}
-use Rattle.protocol.specs.Record.{most_nodes, record_size, count_in, read, words}
+use Rattle.protocol.specs.declared.refusal.Refusal.TheVariants.{IdentifierCount, IdentifierTwice, NoFounder, NoHolder, NoHub, NotInRing, NotWellFormed}
+use Rattle.protocol.specs.Record.{most_nodes, record_size, count_in, row, read, words}
 use Rattle.protocol.specs.WellFormed.{well_formed}
 use Rattle.protocol.specs.Step.{Result, refused, accepted, step}
-use Rattle.protocol.specs.Calls.{Called, turned_down, written, on_record, step_call, owner_call, fresh_by_call, lowest_holder}
+use Rattle.protocol.specs.Routing.{in_ring}
+use Rattle.protocol.specs.Calls.{Called, turned_down, written, on_record, step_call, owner_call, fresh_by_call, lowest_holder, Rolled, unrolled, roll, roll_written, roll_call}
 use Rattle.protocol.specs.Fresh.{fresh}
 use Rattle.protocol.specs.declared.Answer.TheVariants.{Quiet}
 use Rattle.std.specs.Prelude.{Err, Ok}
@@ -95,6 +96,20 @@ module _ (a t : List ℕ) (e : length a ≡ record_size) where
       (λ o. o)
       (λ k. refl)
       (λ ok. rw (same_read ok, get_or-append a t 0 1 (omega arith)))
+
+  pub same_roll : (hub : ℕ) (out : List ℕ) → roll_call (a ++ t) hub out ≡ roll_call a hub out
+  unfolding roll_call
+  same_roll hub out =
+      same_questions (unrolled out) (unrolled out) (rest (a ++ t)) (rest a)
+      (λ r. r)
+      (λ k. refl)
+      (λ ok. rw (same_read ok, get_or-append a t 0 1 (omega arith)))
+    where
+      rest : List ℕ → Rolled
+      rest w =
+          require (nat_lt hub (count_in w)) (unrolled out NoHub)
+          (require (in_ring (row (read w) hub)) (unrolled out NotInRing)
+          (roll_written out (roll (read w) hub (count_in w) hub)))
 
 -- a question asked of two calls
 same_question : {A X : Type 0} (f : A → X) (b : Bool) (x y x' y' : A) → f x ≡ f x' → f y ≡ f y' → f (require b x y) ≡ f (require b x' y')
