@@ -17,12 +17,14 @@ uint32_t traced_step(uint8_t *words, size_t words_len, uint32_t operation, uint3
 uint32_t traced_route(uint8_t *words, size_t words_len, uint32_t hub, const uint8_t *numbers, size_t numbers_len, uint8_t *outcomes,
                       size_t outcomes_len);
 uint32_t traced_owner(const uint8_t *words, size_t words_len, uint32_t number, uint8_t *out, size_t out_len);
+uint32_t traced_roll(const uint8_t *words, size_t words_len, uint32_t hub, uint8_t *roll, size_t roll_len, uint8_t *length, size_t length_len);
 uint32_t model_fresh(uint8_t *words, size_t words_len, const uint8_t *identifiers, size_t identifiers_len);
 uint32_t model_fresh_by(uint8_t *words, size_t words_len, const uint8_t *identifiers, size_t identifiers_len, uint32_t founder);
 uint32_t model_step(uint8_t *words, size_t words_len, uint32_t operation, uint32_t x, uint32_t y, uint8_t *out, size_t out_len);
 uint32_t model_route(uint8_t *words, size_t words_len, uint32_t hub, const uint8_t *numbers, size_t numbers_len, uint8_t *outcomes,
                      size_t outcomes_len);
 uint32_t model_owner(const uint8_t *words, size_t words_len, uint32_t number, uint8_t *out, size_t out_len);
+uint32_t model_roll(const uint8_t *words, size_t words_len, uint32_t hub, uint8_t *roll, size_t roll_len, uint8_t *length, size_t length_len);
 uint32_t traced_sheet_read(const uint8_t *text, size_t text_len, uint8_t *identifiers, size_t identifiers_len, uint8_t *names, size_t names_len,
                            uint8_t *counts, size_t counts_len);
 uint32_t traced_sheet_write(const uint8_t *names, size_t names_len, const uint8_t *identifiers, size_t identifiers_len, uint8_t *text,

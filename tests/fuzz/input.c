@@ -146,7 +146,7 @@ int take_ring(struct input *in, struct ring *ring)
     uint32_t mode = take_mode(in, ring);
     if (mode < 2) {
         struct founding f = take_founding(in, mode == 1, identifiers);
-        return checked_fresh(ring, &f) == RING_OK;
+        return checked_fresh(ring, &f) == RING_OK ? FOUNDED : 0;
     }
     take_record(in, ring, mode);
     return 1;

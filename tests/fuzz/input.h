@@ -41,7 +41,8 @@ void take_record(struct input *in, struct ring *ring, uint32_t mode);
 /* So many bytes as they are, as the 2 bytes before them say, but at most `most`. */
 void take_bytes(struct input *in, uint8_t *bytes, size_t most);
 
-/* All of it. Answers whether there is a record to go on with: not after a fresh call that was refused. */
+/* All of it. Answers whether there is a record to go on with, not after a fresh call that was refused; and FOUNDED after one that was not. */
+#define FOUNDED 2
 int take_ring(struct input *in, struct ring *ring);
 
 /* How many hubs there are; 64 where the record says what cannot be. And a number at one's identifier or beside it. */

@@ -23,7 +23,8 @@ static void say_compared(void)
     static const char *const names[TOLD] = {
         "ring_fresh",       "ring_fresh_by",       "ring_sheet_read", "ring_sheet_write",
         "ring_fresh_cards", "ring_fresh_by_cards", "ring_step_cards", "ring_step_cards of the only member",
-        "ring_offer",       "ring_route",          "ring_route's questions",
+        "ring_offer",       "ring_route",          "ring_route's questions", "ring_roll",
+        "ring_roll on a way round", "ring_roll at rest",
     };
     fprintf(stderr, "calls compared: %llu\n", compared);
     for (unsigned call = 0; call < TOLD; call++) {

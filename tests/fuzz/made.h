@@ -1,6 +1,6 @@
 /*
  * What a call made of the buffers that it was lent, and what must hold of that whichever call it was. For calls.c, founding.c, office.c,
- * custody.c and routes.c.
+ * custody.c, routes.c and rolls.c.
  */
 #ifndef MADE_H
 #define MADE_H
@@ -43,9 +43,13 @@ void must_be_well_formed(const struct ring *ring, const struct made *m);
 
 /*
  * How many calls were compared, for the last lines of a run; and of these calls, how often each returned each number. tests/fuzz/run looks there
- * whether the seeds reach them all. A question of a route counts too: it is compared with a step.
+ * whether the seeds reach them all. A question of a route counts too: it is compared with a step. A roll call whose way comes back counts twice: it
+ * can lack nothing but room.
  */
-enum told { FRESH, FRESH_BY, SHEET_READ, SHEET_WRITE, FRESH_CARDS, FRESH_BY_CARDS, STEP_CARDS, ONLY_MEMBER, OFFER, ROUTE, QUESTION, TOLD };
+enum told {
+    FRESH, FRESH_BY, SHEET_READ, SHEET_WRITE, FRESH_CARDS, FRESH_BY_CARDS, STEP_CARDS, ONLY_MEMBER, OFFER, ROUTE, QUESTION, ROLL, ROLL_WITH_WAY,
+    AT_REST, TOLD
+};
 void count_call(void);
 void count_return(enum told call, uint32_t code);
 

@@ -20,6 +20,7 @@ use ring_tuned::bytes::in_place;
 use ring_tuned::{Fields, Ranges};
 
 mod cards;
+mod rolls;
 mod routes;
 mod sheet;
 
@@ -27,6 +28,7 @@ pub use cards::{
     in_place_offer, in_place_step_cards, plain_offer, plain_one_offer, plain_one_step_cards,
     plain_step_cards, tuned_offer, tuned_step_cards,
 };
+pub use rolls::{by_ranges_roll, in_place_roll, plain_one_roll, plain_roll, tuned_roll};
 pub use routes::{by_ranges_route, in_place_route, plain_one_route, plain_route, tuned_route};
 pub use sheet::{csv_sheet_read, csv_sheet_write};
 

@@ -22,10 +22,11 @@ pub enum Kind {
     Owner,
     AskAny,
     OwnerOfAny,
+    RollCall,
 }
 
 /// All of them, in the order of the table.
-pub const KINDS: [Kind; 11] = [
+pub const KINDS: [Kind; 12] = [
     Kind::AskAnswered,
     Kind::AskSent,
     Kind::DeliverFirst,
@@ -37,6 +38,7 @@ pub const KINDS: [Kind; 11] = [
     Kind::Owner,
     Kind::AskAny,
     Kind::OwnerOfAny,
+    Kind::RollCall,
 ];
 
 impl Kind {
@@ -54,6 +56,7 @@ impl Kind {
             Kind::Owner => "owner",
             Kind::AskAny => "ask, any number, hubs in any order",
             Kind::OwnerOfAny => "owner, any number, hubs in any order",
+            Kind::RollCall => "roll call, any hub, hubs in any order",
         }
     }
 }
@@ -70,8 +73,11 @@ pub struct Case {
 
 /// The case of this kind at a point, if the point has one.
 pub fn case(kind: Kind, n: u32, m: usize) -> Option<Case> {
-    if kind == Kind::AskAny || kind == Kind::OwnerOfAny {
-        return any(kind, n, m);
+    match kind {
+        Kind::AskAny | Kind::OwnerOfAny if n < 3 || m > 0 => return None,
+        Kind::RollCall if m > 0 && m < 256 => return None,
+        Kind::AskAny | Kind::OwnerOfAny | Kind::RollCall => return Some(any(kind, n, m)),
+        _ => {}
     }
     let (call, returns) = call(kind, n, m)?;
     let mut record = record(n, m);
@@ -90,25 +96,24 @@ pub fn case(kind: Kind, n: u32, m: usize) -> Option<Case> {
     })
 }
 
-/// Calls about any number, where hubs do not stand in the order of their
-/// numbers: no branch on the numbers can be foretold.
-fn any(kind: Kind, n: u32, m: usize) -> Option<Case> {
-    if n < 3 || m > 0 {
-        return None;
-    }
+/// Calls about any number or from any hub, where hubs do not stand in the order
+/// of their numbers: no branch on the numbers can be foretold, nor which hub is
+/// next.
+fn any(kind: Kind, n: u32, m: usize) -> Case {
     let mut generator = Generator::new(u64::from(n));
     let calls = (0..MANY).map(|_| match kind {
         Kind::AskAny => Call::Step(0, generator.below(n), generator.next_u32()),
+        Kind::RollCall => Call::Roll(generator.below(n)),
         _ => Call::Owner(generator.next_u32()),
     });
-    Some(Case {
+    Case {
         kind,
         n,
         m,
         calls: calls.collect(),
-        record: scattered(n),
+        record: scattered(n, m),
         returns: 0,
-    })
+    }
 }
 
 /// The call, and what it returns.

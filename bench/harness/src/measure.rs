@@ -13,7 +13,7 @@ use std::hint::black_box;
 use std::time::Instant;
 
 use crate::cases::Case;
-use crate::contestants::{Call, Contestant, CONTESTANTS, COUNT, IDLE, PLAIN};
+use crate::contestants::{Call, Contestant, CONTESTANTS, COUNT, IDLE, OUT, PLAIN};
 use crate::moving::Moving;
 use crate::turns::{self, measured, Time};
 
@@ -21,8 +21,6 @@ use crate::turns::{self, measured, Time};
 const COPIES: usize = 3;
 /// Timed sections of one contestant's turn; one more before them is not counted.
 const SECTIONS: usize = 20;
-/// Bytes of an answer.
-const OUT: usize = 20;
 
 /// One case's figures, by contestant.
 pub struct Figures {

@@ -33,15 +33,28 @@ pub fn record(n: u32, m: usize) -> Vec<u8> {
     } else {
         fill(&mut words, n, m);
     }
-    let state = State::read(&words).expect("the record reads");
-    assert_eq!((state.n(), state.messages.len()), (n, m));
-    bytes(&words)
+    counted(&words, n, m)
 }
 
-/// A record of n hubs that are inside, at rest, and that stand in any order on
-/// the circle.
-pub fn scattered(n: u32) -> Vec<u8> {
-    bytes(&inside(&shuffled(n)))
+/// A record of n hubs that are inside and stand in any order on the circle, and
+/// m questions that wait.
+pub fn scattered(n: u32, m: usize) -> Vec<u8> {
+    let identifiers = shuffled(n);
+    let mut words = inside(&identifiers);
+    if n == 1 {
+        lone(&mut words, m);
+    } else {
+        ask_on(&mut words, &identifiers, m);
+    }
+    counted(&words, n, m)
+}
+
+/// m questions for the number behind a hub's own identifier, which it sends on.
+fn ask_on(words: &mut [u32], identifiers: &[u32], m: usize) {
+    let hubs = identifiers.iter().zip(0..).cycle();
+    for (identifier, hub) in hubs.take(m) {
+        step(words, ASK, hub, identifier + 1).expect("a call that sends is accepted");
+    }
 }
 
 /// The same identifiers in any order; hub 0 keeps its own, since it founds.
@@ -52,6 +65,13 @@ fn shuffled(n: u32) -> Vec<u32> {
         identifiers.swap(hub as usize, 1 + generator.below(hub) as usize);
     }
     identifiers
+}
+
+/// The bytes of a record, which has n hubs and m messages.
+fn counted(words: &[u32], n: u32, m: usize) -> Vec<u8> {
+    let state = State::read(words).expect("the record reads");
+    assert_eq!((state.n(), state.messages.len()), (n, m));
+    bytes(words)
 }
 
 fn bytes(words: &[u32]) -> Vec<u8> {
@@ -106,6 +126,16 @@ fn fill(words: &mut [u32], n: u32, m: usize) {
         };
         step(words, operation, x, y).expect("a call that sends is accepted");
     }
+}
+
+/// The bytes of any well-formed record of n hubs.
+#[cfg(test)]
+pub fn any_record(generator: &mut Generator, n: u32) -> Vec<u8> {
+    let start = generator.next_u32();
+    let names = (0..n).map(|hub| start.wrapping_add(hub * 0x0300_0001));
+    let mut words = vec![0; RECORD_WORDS];
+    ring_model::states::any_state(generator, names.collect()).write(&mut words);
+    bytes(&words)
 }
 
 #[cfg(test)]

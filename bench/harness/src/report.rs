@@ -60,8 +60,8 @@ a tenth, so a point near its target may change sides.
 All hubs are inside; the records are reached from a fresh ring by calls, except messages of a lone hub (n = 1), which are made by hand. The
 two calls refused with 2 get a record with one wrong word: the state of the first row, which an early test meets, and the hops of the last
 message (m = 0: the oldpred of the last row), which no test meets early. Hubs stand clockwise in the order of their numbers, and a call asks the
-same each time; but in the last four lines hubs stand in any order, and each call asks for another number, so that a branch on the numbers cannot be
-foretold.
+same each time; but in the last ten lines hubs stand in any order, and each call asks for another number or calls the roll from another hub, so that
+a branch on the numbers cannot be foretold.
 
 ![cost against hubs and messages](bench.svg)
 

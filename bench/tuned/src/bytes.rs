@@ -10,15 +10,19 @@ use crate::record::RECORD_WORDS;
 use crate::refusal;
 
 mod cards;
+mod rolls;
 mod routes;
 
 pub use cards::{offer, step_cards, BOOK_BYTES};
+pub use rolls::roll;
 pub use routes::route;
 
 /// Bytes of a step's answer.
 pub const ANSWER_BYTES: usize = 20;
 /// Bytes of an owner query's answer.
 pub const OWNER_BYTES: usize = 4;
+/// Bytes of a roll call's length.
+pub const LENGTH_BYTES: usize = 4;
 /// Bytes of a record.
 pub const RECORD_BYTES: usize = 4 * RECORD_WORDS;
 
@@ -77,6 +81,7 @@ pub mod in_place {
     use super::*;
 
     pub use super::cards::in_place::{offer, step_cards};
+    pub use super::rolls::in_place::roll;
     pub use super::routes::in_place::route;
 
     /// A step.

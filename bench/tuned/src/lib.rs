@@ -37,7 +37,7 @@ pub use answer::Answer;
 pub use cards::{fresh_by_cards, fresh_cards, offer, step_cards, BOOK_WORDS};
 pub use check::Check;
 pub use fields::Fields;
-pub use queries::owner;
+pub use queries::{owner, roll_call};
 pub use ranges::Ranges;
 pub use record::RECORD_WORDS;
 pub use routes::route;

@@ -91,6 +91,11 @@ pub(crate) fn identifier<W: Word>(record: &Record<W>, hub: u32) -> u32 {
     record[row_start(hub)].get()
 }
 
+/// The succ of a hub alone.
+pub(crate) fn succ<W: Word>(record: &Record<W>, hub: u32) -> u32 {
+    record[row_start(hub) + 5].get()
+}
+
 fn row_start(hub: u32) -> usize {
     ROWS + ROW_WORDS * hub as usize
 }

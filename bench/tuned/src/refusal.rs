@@ -30,6 +30,8 @@ pub const IDENTIFIER_COUNT: u32 = 13;
 pub const IDENTIFIER_TWICE: u32 = 14;
 /// No hub holds the number.
 pub const NO_HOLDER: u32 = 15;
+/// The way along succ does not come back.
+pub const NO_WAY_ROUND: u32 = 16;
 /// The output is too short.
 pub const OUTPUT_SHORT: u32 = 17;
 /// The founder named is not below the hub count (document 02, 2026-02).

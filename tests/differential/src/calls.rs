@@ -13,6 +13,8 @@ use crate::form::Form;
 /// Bytes of a record.
 pub const RECORD_BYTES: usize = 4 * RECORD_WORDS;
 
+/// `ring_roll`: record, hub, and the outputs for the roll and for its length.
+pub type RollCall = fn(&[u8], u32, &mut [u8], &mut [u8]) -> u32;
 /// `ring_route`: record, hub, numbers and outcomes.
 pub type Route = fn(&mut [u8], u32, &[u8], &mut [u8]) -> u32;
 /// `ring_sheet_read`: text, identifiers, names and counts.
@@ -31,6 +33,8 @@ pub struct Calls {
     pub step: fn(&mut [u8], u32, u32, u32, &mut [u8]) -> u32,
     /// `ring_owner`.
     pub owner: fn(&[u8], u32, &mut [u8]) -> u32,
+    /// `ring_roll`.
+    pub roll: RollCall,
     /// `ring_route`.
     pub route: Route,
     /// The four calls with cards.
@@ -53,6 +57,7 @@ pub const ENGINE: Calls = Calls {
     fresh_by: engine::fresh_by,
     step: engine::step,
     owner: engine::owner,
+    roll: engine::roll,
     route: engine::route,
     cards: ENGINE_CARDS,
     sheet_read: engine::sheet_read,

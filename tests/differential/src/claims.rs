@@ -5,6 +5,8 @@
 //! identifier of the node it belongs to, so a node's held range lies in its owned one exactly if it
 //! has no more keys. Some runs are given to both, so that neither is trusted alone.
 
+mod rest;
+
 use std::collections::HashSet;
 
 use ring_model::answer::{ENTERED, FOUND, GONE};

@@ -12,6 +12,8 @@ use crate::form::Form;
 use crate::identifiers::{identifiers, ring_size, some_key};
 use crate::pair::Pair;
 use crate::reached::Reached;
+use crate::rolls::counts::Source;
+use crate::rolls::roll::Roll;
 use crate::states::{any_state, founded};
 
 /// A batch damages the words of one window; as many batches damage each word once.
@@ -100,6 +102,8 @@ pub fn batch(
             put_both(&mut pair, place, value);
             pair.out.fill(generator.next_u32() as u8);
             pair.owner(some_key(generator, &state), reached).map_err(tell)?;
+            let mut roll = Roll::some(generator, &state);
+            pair.roll(&mut roll, Source::Damaged, reached).map_err(tell)?;
             let command = command_at(generator, &state, place);
             if pair.step(command, reached).map_err(tell)? {
                 pair.record.put(&sound);
@@ -134,6 +138,8 @@ fn random_words(
             |what: String| format!("random words below {limit} from word {first} on: {what}");
         pair.step(on_any_state(generator, state), reached).map_err(tell)?;
         pair.owner(generator.next_u32(), reached).map_err(tell)?;
+        let mut roll = Roll::some(generator, state);
+        pair.roll(&mut roll, Source::Damaged, reached).map_err(tell)?;
     }
     Ok(())
 }

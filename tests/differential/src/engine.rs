@@ -1,11 +1,11 @@
-//! The engine's eleven C calls, as functions on slices. This is the only file with `unsafe`.
+//! The engine's twelve C calls, as functions on slices. This is the only file with `unsafe`.
 #![allow(unsafe_code)]
 
 mod declared;
 
 use declared::{
     ring_fresh, ring_fresh_by, ring_fresh_by_cards, ring_fresh_cards, ring_offer, ring_owner,
-    ring_route, ring_sheet_read, ring_sheet_write, ring_step, ring_step_cards,
+    ring_roll, ring_route, ring_sheet_read, ring_sheet_write, ring_step, ring_step_cards,
 };
 
 /// Founds a ring by the smallest identifier.
@@ -34,6 +34,22 @@ pub fn step(words: &mut [u8], operation: u32, x: u32, y: u32, out: &mut [u8]) ->
 pub fn owner(words: &[u8], key: u32, out: &mut [u8]) -> u32 {
     // SAFETY: as for fresh; the record is only read.
     unsafe { ring_owner(words.as_ptr(), words.len(), key, out.as_mut_ptr(), out.len()) }
+}
+
+/// Calls the roll from a hub.
+pub fn roll(words: &[u8], hub: u32, roll: &mut [u8], length: &mut [u8]) -> u32 {
+    // SAFETY: as for fresh, of three slices; the record is only read.
+    unsafe {
+        ring_roll(
+            words.as_ptr(),
+            words.len(),
+            hub,
+            roll.as_mut_ptr(),
+            roll.len(),
+            length.as_mut_ptr(),
+            length.len(),
+        )
+    }
 }
 
 /// Founds a ring and its cards by the smallest identifier.

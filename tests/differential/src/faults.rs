@@ -15,6 +15,7 @@ use crate::engine;
 use crate::filters::{FILTERS, NO_FAULT};
 use crate::parts::PARTS;
 use crate::reached::Reached;
+use crate::rolls;
 use crate::routes;
 use crate::sheets::wrong::{same_read, same_write, READS, WRITES};
 use crate::wrong_foundings::{NAMED, UNNAMED};
@@ -62,7 +63,7 @@ pub fn faults() -> Vec<Fault> {
     let ranges = OWNERS.iter().map(ranged);
     let others = other_faults().into_iter().chain(FILTERS.iter().map(filtered)).chain(ranges);
     let routes = routes::wrong::faults();
-    let called = cards::wrong::faults().into_iter().chain(routes);
+    let called = cards::wrong::faults().into_iter().chain(routes).chain(rolls::wrong::faults());
     let called = called.map(|(name, part, calls)| fault(name, part, calls));
     steps.chain(wrong_foundings()).chain(wrong_sheets()).chain(called).chain(others).collect()
 }
@@ -115,14 +116,15 @@ impl Fault {
 }
 
 /// That `inspect` passes behind a filter that changes nothing, and the calls with sheets, cards,
-/// ranges and routes behind what makes them wrong elsewhere: the faults are seen there, not their
-/// wrapping.
-pub fn wrappings_pass(seed: u64) -> [(&'static str, bool); 9] {
+/// ranges, routes and rolls behind what makes them wrong elsewhere: the faults are seen there, not
+/// their wrapping.
+pub fn wrappings_pass(seed: u64) -> [(&'static str, bool); 12] {
     let filter = Calls { inspect: NO_FAULT, ..ENGINE };
     let sheets = Calls { sheet_read: same_read, sheet_write: same_write, ..ENGINE };
     let owner = Calls { owner: same_owner, ..ENGINE };
     let with_cards = "calls with cards that change nothing are not found wrong";
     let made_of_asks = "routes that are made of asks are not found wrong";
+    let by_succ = "rolls by succ are not found wrong";
     [
         ("a filter that changes nothing is not found wrong", "inspect", filter),
         ("sheet calls that change nothing are not found wrong", "sheets", sheets),
@@ -133,6 +135,9 @@ pub fn wrappings_pass(seed: u64) -> [(&'static str, bool); 9] {
         (made_of_asks, "any_routes", routes::wrong::same()),
         (made_of_asks, "damaged_routes", routes::wrong::same()),
         (made_of_asks, "route_edges", routes::wrong::same()),
+        (by_succ, "runs", rolls::wrong::same()),
+        (by_succ, "unreachable", rolls::wrong::same()),
+        (by_succ, "roll_edges", rolls::wrong::same()),
     ]
     .map(|(name, part, calls)| (name, !Fault { name, part, calls }.is_seen_within(seed, UNFAULTED)))
 }

@@ -1,8 +1,8 @@
 //! The engine beside the model of documents 01 and 02: the C calls on lent bytes, `ringrun` and
 //! `inspect`, on random and on hostile input, price cards, routes and office sheets among it. Every
 //! returned number, every byte of record, cards and output, and the bytes around them are compared;
-//! runs from fresh are held to demand 3 as well, those with cards to what is claimed of cards, and a
-//! route to what its questions come to one by one.
+//! runs from fresh are held to demand 3 as well, and at rest to the ledger's rolls, those with cards
+//! to what is claimed of cards, and a route to what its questions come to one by one.
 //!
 //! Usage, from the repository's folder: `differential SEED SECONDS`, or `differential SEED 0 PART
 //! BATCH` to run one batch again.
@@ -34,6 +34,7 @@ mod parts;
 mod program;
 mod reached;
 mod ring;
+mod rolls;
 mod routes;
 mod runs;
 mod schedule;
@@ -93,6 +94,7 @@ fn main() -> ExitCode {
 fn planted(seed: u64, score: &mut Score) {
     let mut cases = wrong_claims::cases();
     cases.extend(cards::wrong_claims::cases());
+    cases.extend(rolls::wrong_claims::cases());
     cases.extend(faults::faults().iter().map(|fault| (fault.name, fault.is_seen(seed))));
     cases.extend(faults::wrappings_pass(seed));
     println!("{} planted faults", cases.len());

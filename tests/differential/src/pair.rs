@@ -8,6 +8,8 @@ use crate::calls::{answer_of, words_of, Calls};
 use crate::form::Form;
 use crate::lent::{compare, Lent};
 use crate::reached::Reached;
+use crate::rolls::counts::Source;
+use crate::rolls::roll::Roll;
 
 /// A record and an output, twice.
 pub struct Pair {
@@ -43,6 +45,18 @@ impl Pair {
         let should = ring_owner(self.record.look(), key, self.out.expected());
         reached.code(code);
         self.compare(code, should).map_err(|what| format!("owner {key}: {what}"))
+    }
+
+    /// A roll call of both, compared.
+    pub fn roll(
+        &mut self,
+        roll: &mut Roll,
+        source: Source,
+        reached: &mut Reached,
+    ) -> Result<(), String> {
+        let code = roll.call(self.calls, &mut self.record)?;
+        reached.roll(source, code, roll, self.record.look());
+        Ok(())
     }
 
     /// A founding by both, compared. The identifiers must not change either.

@@ -7,7 +7,7 @@ use ring_model::generator::Generator;
 
 use crate::calls::Calls;
 use crate::reached::Reached;
-use crate::{cards, damaged, founding, lengths, program, routes, runs, sheets, unreachable};
+use crate::{cards, damaged, founding, lengths, program, rolls, routes, runs, sheets, unreachable};
 
 /// A batch of calls: everything random in it comes from the generator.
 pub type Batch = fn(&mut Generator, Calls, u64, &mut Reached) -> Result<(), String>;
@@ -25,12 +25,13 @@ pub struct Part {
 }
 
 /// All parts.
-pub const PARTS: [Part; 17] = [
+pub const PARTS: [Part; 18] = [
     Part { name: "runs", share: 19, least: 0, batch: runs::batch },
     Part { name: "witnessed", share: 6, least: 0, batch: runs::witnessed_batch },
     Part { name: "unreachable", share: 9, least: 0, batch: unreachable::batch },
     Part { name: "damaged", share: 8, least: 0, batch: damaged::batch },
     Part { name: "lengths", share: 3, least: 0, batch: lengths::batch },
+    Part { name: "roll_edges", share: 1, least: 10, batch: rolls::edges::batch },
     Part { name: "founding", share: 3, least: 0, batch: founding::batch },
     Part { name: "cards", share: 6, least: 100, batch: cards::runs::batch },
     Part { name: "any_cards", share: 3, least: 300, batch: cards::any::batch },
@@ -40,7 +41,7 @@ pub const PARTS: [Part; 17] = [
     Part { name: "any_routes", share: 2, least: 60, batch: routes::any::batch },
     Part { name: "damaged_routes", share: 1, least: 20, batch: routes::damaged::batch },
     Part { name: "route_edges", share: 1, least: 10, batch: routes::edges::batch },
-    Part { name: "sheets", share: 14, least: 5_000, batch: sheets::batch },
+    Part { name: "sheets", share: 13, least: 5_000, batch: sheets::batch },
     Part { name: "ringrun", share: 10, least: 0, batch: program::batch },
     Part { name: "inspect", share: 6, least: 0, batch: program::inspect_batch },
 ];

@@ -9,12 +9,13 @@ use crate::cards::counts::CardCounts;
 use crate::form::Form;
 use crate::founded::Founded;
 use crate::inspected::Inspected;
+use crate::rolls::counts::{RollCounts, Source};
+use crate::rolls::roll::Roll;
 use crate::routes::counts::RouteCounts;
 use crate::sheets::counts::Sheets;
 
-/// Refusal numbers of the ring's C calls: 1 to 15, 17 and 18. 16 is the roll call's, which C has
-/// not.
-const REFUSALS: [usize; 17] = [1, 2, 3, 4, 5, 6, 7, 8, 9, 10, 11, 12, 13, 14, 15, 17, 18];
+/// Refusal numbers of the ring's C calls.
+const REFUSALS: [usize; 18] = [1, 2, 3, 4, 5, 6, 7, 8, 9, 10, 11, 12, 13, 14, 15, 16, 17, 18];
 
 /// Counts by their numbers; a count of its own has no number.
 pub type Cells = Vec<(Option<usize>, u64)>;
@@ -22,7 +23,7 @@ pub type Cells = Vec<(Option<usize>, u64)>;
 /// Counts of what was reached.
 #[derive(Clone, Default)]
 pub struct Reached {
-    /// Calls compared: steps, owner queries and fresh calls.
+    /// Calls compared: steps, owner queries, roll calls and fresh calls.
     pub calls: u64,
     /// Deliveries tried on copies, for demand 3's last claim.
     pub tried: u64,
@@ -36,6 +37,8 @@ pub struct Reached {
     pub cards: CardCounts,
     /// What the routes were about. They are counted there alone.
     pub routes: RouteCounts,
+    /// What the roll calls were about.
+    pub rolls: RollCounts,
     /// What the sheets were about. Their calls are counted there alone.
     pub sheets: Sheets,
     /// The most nodes that were in the ledger at once.
@@ -65,6 +68,12 @@ impl Reached {
     pub fn founding(&mut self, form: Form, code: u32, identifiers: &[u32]) {
         self.code(code);
         self.founded.take_in(form, code, identifiers);
+    }
+
+    /// Counts a roll call, its number, and the record that it read.
+    pub fn roll(&mut self, source: Source, code: u32, roll: &Roll, record: &[u8]) {
+        self.code(code);
+        self.rolls.called(source, code, roll, record);
     }
 
     /// Counts what a step was about, before it is made.
@@ -116,6 +125,7 @@ impl Reached {
         self.inspected.add(&other.inspected);
         self.cards.add(&other.cards);
         self.routes.add(&other.routes);
+        self.rolls.add(&other.rolls);
         self.sheets.add(&other.sheets);
         self.most_members = self.most_members.max(other.most_members);
         add_all(&mut self.refusals, &other.refusals);
@@ -158,6 +168,7 @@ impl Reached {
             self.inspected.rows(),
             self.cards.rows(),
             self.routes.rows(),
+            self.rolls.rows(),
             self.sheets.rows(),
         ];
         calls.into_iter().chain(others.into_iter().flatten()).collect()

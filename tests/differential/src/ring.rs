@@ -10,9 +10,13 @@ use ring_model::step::step_state;
 use ring_model::{Answer, Command};
 
 use crate::calls::{answer_of, put_words, Calls, RECORD_BYTES};
+use crate::claims::Claims;
 use crate::form::Form;
 use crate::lent::Lent;
 use crate::reached::Reached;
+use crate::rolls::counts::Source as RollSource;
+use crate::rolls::rest::Rest;
+use crate::rolls::roll::Roll;
 use crate::routes::counts::{RouteCounts, Source};
 use crate::routes::route::Route;
 use crate::states::{founded, state_of};
@@ -131,6 +135,28 @@ impl Ring {
             put_words(&mut self.out.expected()[..OWNER_BYTES], &[node]);
         }
         self.compare(code, if expected.is_some() { NO_REFUSAL } else { NO_HOLDER })
+    }
+
+    /// One roll call of both, compared.
+    pub fn roll(
+        &mut self,
+        roll: &mut Roll,
+        source: RollSource,
+        reached: &mut Reached,
+    ) -> Result<(), String> {
+        let code = roll.call(self.calls, &mut self.record)?;
+        reached.roll(source, code, roll, self.record.look());
+        Ok(())
+    }
+
+    /// Where no message waits: the record beside the ledger.
+    pub fn at_rest<'a>(
+        &'a mut self,
+        claims: &'a Claims,
+        reached: &'a mut Reached,
+    ) -> Option<Rest<'a>> {
+        let (calls, record) = (self.calls, &mut self.record);
+        self.state.messages.is_empty().then_some(Rest { calls, record, claims, reached })
     }
 
     fn compare(&self, code: u32, should: u32) -> Result<(), String> {

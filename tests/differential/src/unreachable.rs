@@ -8,6 +8,8 @@ use crate::driver::on_any_state;
 use crate::identifiers::some_key;
 use crate::reached::Reached;
 use crate::ring::Ring;
+use crate::rolls::counts::Source;
+use crate::rolls::roll::Roll;
 use crate::states::any_state;
 use crate::trail::Trail;
 
@@ -37,6 +39,9 @@ pub fn batch(
             let key = some_key(generator, &ring.state);
             let asked = ring.owner(generator, key, reached);
             asked.map_err(|what| trail.tell(&format!("then the owner of {key}: {what}")))?;
+            let mut roll = Roll::some(generator, &ring.state);
+            let called = ring.roll(&mut roll, Source::Any, reached);
+            called.map_err(|what| trail.tell(&format!("then the {what}")))?;
         }
     }
     Ok(())

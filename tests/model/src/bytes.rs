@@ -1,8 +1,9 @@
 //! The calls on bytes, as the C boundary has them (document 01, 'Reading the
-//! ring'): four bytes a word, lowest first. The office sheet's, those with
-//! cards and the route's are in files of their own.
+//! ring'), and the roll call, which C has since document 02's 2026-07: four
+//! bytes a word, lowest first. The office sheet's, those with cards and the
+//! route's are in files of their own.
 
-use crate::queries::owner;
+use crate::queries::{owner, roll_call};
 use crate::record::RECORD_WORDS;
 use crate::refusal;
 use crate::step::{fresh, fresh_by, step};
@@ -21,6 +22,8 @@ pub const NO_REFUSAL: u32 = 0;
 pub const ANSWER_BYTES: usize = 20;
 /// Bytes of an owner query's answer: one word.
 pub const OWNER_BYTES: usize = 4;
+/// Bytes of a roll call's length: one word.
+pub const LENGTH_BYTES: usize = 4;
 
 /// Reads at most `limit` whole words; one to three bytes left over are not
 /// read.
@@ -64,6 +67,23 @@ pub fn ring_owner(words: &[u8], key: u32, out: &mut [u8]) -> u32 {
     match owner(&words_of(words, RECORD_WORDS), key) {
         Ok(node) => {
             write_words(out, &[node]);
+            NO_REFUSAL
+        }
+        Err(number) => number,
+    }
+}
+
+/// A roll call: its hubs, one word each, and how many they are. A `length`
+/// that is too short is 17, 'asked first'; the roll's own 17 comes last.
+pub fn ring_roll(words: &[u8], hub: u32, roll: &mut [u8], length: &mut [u8]) -> u32 {
+    if length.len() < LENGTH_BYTES {
+        return refusal::OUTPUT_SHORT;
+    }
+    let mut places = words_of(roll, usize::MAX);
+    match roll_call(&words_of(words, RECORD_WORDS), hub, &mut places) {
+        Ok(count) => {
+            write_words(roll, &places[..count]);
+            write_words(length, &[count as u32]);
             NO_REFUSAL
         }
         Err(number) => number,

@@ -44,6 +44,11 @@ impl Membership {
         &self.members
     }
 
+    /// The identifier of a node of this ring.
+    pub fn identifier(&self, node: u32) -> u32 {
+        self.identifiers[node as usize]
+    }
+
     /// Takes in the hub of an entered answer, strikes off the hub of a gone
     /// one. 'Every other answer leaves it as it is.'
     pub fn feed(&mut self, answer: &Answer) {
@@ -62,17 +67,32 @@ impl Membership {
     /// identifier; an empty set has none.'
     pub fn owner(&self, key: u32) -> Option<u32> {
         let members = self.members.iter().copied();
-        members.min_by_key(|&node| distance(key, self.identifiers[node as usize]))
+        members.min_by_key(|&node| distance(key, self.identifier(node)))
     }
 
     /// The members clockwise from one of them on: what its roll call lists
     /// when no message is in flight.
     pub fn clockwise_from(&self, start: u32) -> Vec<u32> {
-        let origin = self.identifiers[start as usize];
+        let origin = self.identifier(start);
         let mut roll: Vec<u32> = self.members.iter().copied().collect();
-        roll.sort_by_key(|&node| distance(origin, self.identifiers[node as usize]));
+        roll.sort_by_key(|&node| distance(origin, self.identifier(node)));
         roll
     }
+}
+
+/// The keys at which ranges begin and end. All ranges, the record's and the
+/// membership's, end at identifiers; so the identifiers alone already meet
+/// every piece of the circle, and the others are there for good measure.
+pub fn telling_keys(identifiers: &[u32]) -> Vec<u32> {
+    let mut keys = vec![0, u32::MAX];
+    for &identifier in identifiers {
+        keys.push(identifier);
+        keys.push(identifier.wrapping_add(1));
+        keys.push(identifier.wrapping_sub(1));
+    }
+    keys.sort_unstable();
+    keys.dedup();
+    keys
 }
 
 /// Every node that holds the key, lowest number first.

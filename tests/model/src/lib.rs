@@ -22,6 +22,7 @@ pub mod lines;
 pub mod queries;
 pub mod record;
 pub mod refusal;
+pub mod rest;
 pub mod ringrun;
 pub mod routes;
 pub mod routing;

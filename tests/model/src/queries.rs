@@ -19,9 +19,13 @@ pub fn holds(state: &State, node: u32, key: u32) -> bool {
 
 /// The lowest node number that holds the key.
 pub fn owner(words: &[u32], key: u32) -> Result<u32, u32> {
-    let state = State::read(words)?;
+    owner_state(&State::read(words)?, key)
+}
+
+/// The same on the typed form.
+pub fn owner_state(state: &State, key: u32) -> Result<u32, u32> {
     (0..state.n())
-        .find(|&node| holds(&state, node, key))
+        .find(|&node| holds(state, node, key))
         .ok_or(refusal::NO_HOLDER)
 }
 
@@ -39,19 +43,24 @@ pub fn hub_row(words: &[u32], node: u32) -> &[u32] {
 /// round and returns how many. Output past them keeps its content, and all of
 /// it does on a refusal.
 pub fn roll_call(words: &[u32], node: u32, output: &mut [u32]) -> Result<usize, u32> {
-    let state = State::read(words)?;
+    let roll = roll_state(&State::read(words)?, node)?;
+    if output.len() < roll.len() {
+        return Err(refusal::OUTPUT_SHORT);
+    }
+    output[..roll.len()].copy_from_slice(&roll);
+    Ok(roll.len())
+}
+
+/// The way round on the typed form: a roll call's questions but for the
+/// record's before them and the output's behind them.
+pub fn roll_state(state: &State, node: u32) -> Result<Vec<u32>, u32> {
     if node >= state.n() {
         return Err(refusal::NO_SUCH_NODE);
     }
     if !state.row(node).in_ring() {
         return Err(refusal::NOT_IN_RING);
     }
-    let roll = way_round(&state, node).ok_or(refusal::NO_WAY_ROUND)?;
-    if output.len() < roll.len() {
-        return Err(refusal::OUTPUT_SHORT);
-    }
-    output[..roll.len()].copy_from_slice(&roll);
-    Ok(roll.len())
+    way_round(state, node).ok_or(refusal::NO_WAY_ROUND)
 }
 
 /// 'Does following succ come back to the start after at most n hubs (a succ

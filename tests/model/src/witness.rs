@@ -1,16 +1,19 @@
-//! A checker of demand 3, fed every call of a run from a fresh ring.
+//! A checker of demand 3, and of what document 02's 2026-07 claims beside it,
+//! fed every call of a run from a fresh ring.
 //!
 //! Each prefix of a list is a list too, so the five claims are checked after
-//! every call. The checker takes nothing from the engine under test but what
-//! the demand speaks of: the outcomes, and the record after each call.
+//! every call, and the one about rings at rest wherever no message waits. The
+//! checker takes nothing from the engine under test but what the demand speaks
+//! of: the outcomes, and the record after each call.
 
 use std::collections::HashSet;
 
 use crate::answer::{Answer, FOUND};
 use crate::command::{Command, DELIVER};
 use crate::generator::Generator;
-use crate::ledger::{holders, waiting, Lookups, Membership};
+use crate::ledger::{holders, telling_keys, waiting, Lookups, Membership};
 use crate::record::{State, RECORD_WORDS};
+use crate::rest::{self, Unrest};
 use crate::step::step;
 
 /// A step call, of the model or of an engine beside it.
@@ -19,7 +22,7 @@ pub type StepCall = fn(&mut [u32], u32, u32, u32) -> Result<Answer, u32>;
 /// How many random keys are tried after each call besides the fixed ones.
 const RANDOM_KEYS: usize = 4;
 
-/// A claim of demand 3 that does not hold.
+/// A claim of demand 3 that does not hold, or the one of 2026-07.
 #[derive(Clone, Debug, PartialEq, Eq)]
 pub enum Violation {
     /// More than one node holds the key.
@@ -36,6 +39,9 @@ pub enum Violation {
     /// Sender and receiver of a message in flight whose delivery is refused,
     /// and the number.
     DeliverRefused(u32, u32, u32),
+    /// No message waits, and the rolls or the owners are not as they should
+    /// be then.
+    NotAtRest(Unrest),
     /// The record cannot be judged: it is refused with this number.
     RecordRefused(u32),
 }
@@ -64,7 +70,7 @@ impl Witness {
             membership: Membership::new(identifiers, founder),
             lookups: Lookups::default(),
             tickets: HashSet::new(),
-            keys: interesting_keys(identifiers),
+            keys: telling_keys(identifiers),
             generator: Generator::new(identifiers.len() as u64),
             step,
         }
@@ -116,24 +122,24 @@ impl Witness {
         Ok(())
     }
 
-    /// Claims (a), (c) and (e) on the record after a call.
+    /// Claims (a), (c) and (e) on the record after a call, and at rest what is
+    /// claimed then.
     pub fn judge(&mut self, record: &[u32]) -> Result<(), Violation> {
         let state = State::read(record).map_err(Violation::RecordRefused)?;
-        self.judge_holders(&state)?;
+        let mut keys = self.keys.clone();
+        keys.extend((0..RANDOM_KEYS).map(|_| self.generator.next_u32()));
+        self.judge_holders(&state, &keys)?;
         self.judge_lookups(&state)?;
-        self.judge_deliveries(&state, record)
+        self.judge_deliveries(&state, record)?;
+        if state.messages.is_empty() {
+            rest::judge(&state, &self.membership, &keys).map_err(Violation::NotAtRest)?;
+        }
+        Ok(())
     }
 
     /// (a): every key has at most one holder, and that is the owner.
-    fn judge_holders(&mut self, state: &State) -> Result<(), Violation> {
-        for index in 0..self.keys.len() {
-            self.judge_key(state, self.keys[index])?;
-        }
-        for _ in 0..RANDOM_KEYS {
-            let key = self.generator.next_u32();
-            self.judge_key(state, key)?;
-        }
-        Ok(())
+    fn judge_holders(&self, state: &State, keys: &[u32]) -> Result<(), Violation> {
+        keys.iter().try_for_each(|&key| self.judge_key(state, key))
     }
 
     fn judge_key(&self, state: &State, key: u32) -> Result<(), Violation> {
@@ -175,19 +181,4 @@ impl Witness {
         }
         Ok(())
     }
-}
-
-/// The keys at which ranges begin and end. All ranges, the record's and the
-/// membership's, end at identifiers; so the identifiers alone already meet
-/// every piece of the circle, and the others are there for good measure.
-fn interesting_keys(identifiers: &[u32]) -> Vec<u32> {
-    let mut keys = vec![0, u32::MAX];
-    for &identifier in identifiers {
-        keys.push(identifier);
-        keys.push(identifier.wrapping_add(1));
-        keys.push(identifier.wrapping_sub(1));
-    }
-    keys.sort_unstable();
-    keys.dedup();
-    keys
 }

@@ -7,7 +7,7 @@ use std::collections::BTreeSet;
 
 use common::driver::{command, Mix};
 use common::records::any_state;
-use ring_model::bytes::{ring_owner, ring_step};
+use ring_model::bytes::{ring_owner, ring_roll, ring_step};
 use ring_model::generator::Generator;
 use ring_model::record::State;
 use ring_model::{hub_row, owner, roll_call, step, well_formed, Answer, Command, RECORD_WORDS};
@@ -73,15 +73,26 @@ fn checked_reading(words: &[u32], state: &State, node: u32, key: u32) -> BTreeSe
             assert_eq!(out, [0xBB; 4]);
         }
     }
-    let mut output = [7777; 64];
-    match roll_call(words, node, &mut output[..3]) {
-        Ok(length) => assert_eq!((output[0], output[length]), (node, 7777)),
-        Err(number) => {
-            refusals.insert(number);
-            assert_eq!(output, [7777; 64]);
-        }
-    }
+    refusals.extend(checked_roll(words, node).err());
     refusals
+}
+
+/// A roll call on words and on bytes, with room for three hubs.
+fn checked_roll(words: &[u32], node: u32) -> Result<usize, u32> {
+    let mut output = [0xBBBB_BBBB; 64];
+    let outcome = roll_call(words, node, &mut output[..3]);
+    match outcome {
+        Ok(length) => assert_eq!((output[0], output[length]), (node, 0xBBBB_BBBB)),
+        Err(_) => assert_eq!(output, [0xBBBB_BBBB; 64]),
+    }
+    let (mut roll, mut length) = ([0xBB; 15], [0xBB; 4]);
+    let code = ring_roll(&bytes_of(words), node, &mut roll, &mut length);
+    assert_eq!(code, outcome.err().unwrap_or(0));
+    assert_eq!(roll[..12], bytes_of(&output[..3]));
+    assert_eq!(roll[12..], [0xBB; 3]);
+    let count = outcome.map_or(0xBBBB_BBBB, |count| count as u32);
+    assert_eq!(length, count.to_le_bytes());
+    outcome
 }
 
 #[test]

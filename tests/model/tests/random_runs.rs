@@ -1,5 +1,5 @@
 //! Random runs from fresh rings of 1 to 64 nodes, every call under the
-//! witness.
+//! witness, which judges rolls and owners as well wherever no message waits.
 
 mod common;
 
@@ -19,6 +19,7 @@ struct Met {
     kinds: BTreeSet<u32>,
     most_waiting: usize,
     rests: usize,
+    members_at_rest: BTreeSet<usize>,
     founders: BTreeSet<u32>,
 }
 
@@ -33,7 +34,11 @@ impl Met {
         self.kinds
             .extend(messages.last().map(|message| message.kind));
         self.most_waiting = self.most_waiting.max(messages.len());
-        self.rests += usize::from(messages.is_empty());
+        if messages.is_empty() {
+            self.rests += 1;
+            let members = run.witness.membership().members().len();
+            self.members_at_rest.insert(members);
+        }
     }
 }
 
@@ -86,6 +91,7 @@ fn rings_of_every_size() {
     assert_eq!(met.answers, (0..=7).collect());
     assert_eq!(met.kinds, (1..=14).collect());
     assert!(met.rests > 100, "{} times at rest", met.rests);
+    assert!(met.members_at_rest.len() > 24, "{:?}", met.members_at_rest);
     assert!(met.founders.len() > 32, "founders: {:?}", met.founders);
 }
 
@@ -111,4 +117,23 @@ fn small_rings_for_longer() {
         random_run(1000 + seed, n, mix, 1000, &mut met);
     }
     assert!(met.calls > 60_000, "{} calls", met.calls);
+}
+
+/// Each ring takes in all of its nodes and then loses all but one, and comes
+/// to rest after every join and leave.
+#[test]
+fn rings_that_grow_and_shrink() {
+    let mut generator = Generator::new(2000);
+    for n in [1, 2, 3, 7, 30, 64] {
+        let mut run = Run::settled(&identifiers(&mut generator, n));
+        for left in (1..n).rev() {
+            let members = run.witness.membership().members();
+            let members: Vec<u32> = members.iter().copied().collect();
+            let &node = generator.pick(&members).expect("there is a member");
+            run.leave(node).expect("leave is accepted");
+            run.drain();
+            run.assert_at_rest();
+            assert_eq!(run.witness.membership().members().len(), left);
+        }
+    }
 }

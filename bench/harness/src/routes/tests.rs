@@ -2,11 +2,11 @@
 //! ones, and where a call is refused.
 
 use ring_model::generator::Generator;
-use ring_model::states::any_state;
 use ring_model::RECORD_WORDS;
 
 use super::contestants::{CONTESTANTS, ONE_BY_ONE, PLAIN};
 use super::{outcome, PLACE};
+use crate::records::any_record;
 
 /// The return of all of them; where it is none, that of the steps one by one
 /// too, which do not ask the questions of a route.
@@ -25,19 +25,6 @@ fn agreed(record: &[u8], hub: u32, numbers: &[u8], places_len: usize) -> u32 {
     expected.0
 }
 
-/// The bytes of any well-formed record of n hubs.
-fn any_record(generator: &mut Generator, n: u32) -> Vec<u8> {
-    let start = generator.next_u32();
-    let names = (0..n).map(|hub| start.wrapping_add(hub * 0x0300_0001));
-    let mut words = vec![0; RECORD_WORDS];
-    any_state(generator, names.collect()).write(&mut words);
-    bytes(words)
-}
-
-fn bytes(words: Vec<u32>) -> Vec<u8> {
-    words.into_iter().flat_map(u32::to_le_bytes).collect()
-}
-
 /// Numbers beside the identifiers of a record, most of them.
 fn any_numbers(generator: &mut Generator, record: &[u8], n: u32, count: u32) -> Vec<u8> {
     let mut number = |_| {
@@ -49,7 +36,7 @@ fn any_numbers(generator: &mut Generator, record: &[u8], n: u32, count: u32) -> 
             beside => below.wrapping_add(beside),
         }
     };
-    bytes((0..count).map(&mut number).collect())
+    (0..count).flat_map(|i| number(i).to_le_bytes()).collect()
 }
 
 /// On random records; damaged by one word, most calls are refused by 2.

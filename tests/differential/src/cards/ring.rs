@@ -10,8 +10,11 @@ use ring_model::{Answer, Command};
 use super::calls::CARDS_BYTES;
 use super::counts::CardCounts;
 use crate::calls::{answer_of, put_words, words_of, Calls, RECORD_BYTES};
+use crate::claims::Claims;
 use crate::form::Form;
 use crate::lent::{compare, Lent};
+use crate::reached::Reached;
+use crate::rolls::rest::Rest;
 use crate::routes::counts::{RouteCounts, Source};
 use crate::routes::route::Route;
 use crate::states::{founded, state_of};
@@ -126,6 +129,16 @@ impl CardRing {
             self.state = state_of(after)?;
         }
         Ok(code)
+    }
+
+    /// Where no message waits: the record beside the ledger.
+    pub fn at_rest<'a>(
+        &'a mut self,
+        claims: &'a Claims,
+        reached: &'a mut Reached,
+    ) -> Option<Rest<'a>> {
+        let (calls, record) = (self.calls, &mut self.record);
+        self.state.messages.is_empty().then_some(Rest { calls, record, claims, reached })
     }
 
     fn write_expected(&mut self) {

@@ -1,5 +1,6 @@
 //! Runs from fresh rings with cards: steps, offers and routes compared, and all claims after every
-//! call. Cards are not lent to a route, and must be right after it as well.
+//! call, and the ledger's rolls and owners at rest. Cards are not lent to a route, and must be right
+//! after it as well.
 
 use ring_model::answer::{ENTERED, GONE};
 use ring_model::bytes::NO_REFUSAL;
@@ -125,6 +126,8 @@ impl Run<'_> {
             }
         }
         self.judge()?;
+        let rest = self.ring.at_rest(&self.claims, self.reached);
+        rest.map_or(Ok(()), |mut rest| rest.look(generator))?;
         self.try_a_link(generator)
     }
 

@@ -1,4 +1,4 @@
-//! The engine's eleven C calls, as `include/ring.h` declares them.
+//! The engine's twelve C calls, as `include/ring.h` declares them.
 
 extern "C" {
     pub fn ring_fresh(
@@ -29,6 +29,15 @@ extern "C" {
         number: u32,
         out: *mut u8,
         out_len: usize,
+    ) -> u32;
+    pub fn ring_roll(
+        words: *const u8,
+        words_len: usize,
+        hub: u32,
+        roll: *mut u8,
+        roll_len: usize,
+        length: *mut u8,
+        length_len: usize,
     ) -> u32;
     pub fn ring_fresh_cards(
         words: *mut u8,

@@ -8,9 +8,9 @@ use ring_model::record::State;
 use super::counts::Source;
 use super::lists::{route_of, some_hub, some_numbers, LONGEST};
 use super::route::Route;
-use crate::calls::{Calls, RECORD_BYTES};
+use crate::calls::Calls;
 use crate::damaged::bytes_of;
-use crate::lengths::record_lengths;
+use crate::lengths::{around_enough, record_lengths, some_record};
 use crate::lent::Lent;
 use crate::reached::Reached;
 use crate::states::any_state;
@@ -71,22 +71,4 @@ fn rooms(count: usize) -> Vec<usize> {
     let mut all: Vec<usize> = short.chain(LONGER.iter().map(|by| enough + by)).collect();
     all.push(0);
     all
-}
-
-/// Mostly enough for a record, now and then short of it.
-fn around_enough(generator: &mut Generator) -> usize {
-    match generator.below(8) {
-        0 => RECORD_BYTES - 1 - generator.below(8) as usize,
-        _ => RECORD_BYTES + generator.below(6) as usize,
-    }
-}
-
-/// A sound record, as far as there is room, or a damaged one.
-fn some_record(generator: &mut Generator, sound: &[u8], length: usize) -> Lent {
-    let mut record = Lent::new(generator, length);
-    record.put(sound);
-    if generator.chance(12) {
-        record.put(&generator.next_u32().to_le_bytes());
-    }
-    record
 }

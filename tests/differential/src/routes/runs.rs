@@ -1,5 +1,5 @@
 //! Runs from fresh rings with routes among the steps: every call compared, each route asked one by
-//! one as well, and demand 3's claims after every call.
+//! one as well, demand 3's claims after every call, and the ledger's rolls and owners at rest.
 
 use ring_model::bytes::NO_REFUSAL;
 use ring_model::generator::Generator;
@@ -91,7 +91,9 @@ impl Run<'_> {
         if let Ok(answer) = &self.ring.step(generator, command, self.reached)? {
             self.claims.take_in(command, answer)?;
         }
-        self.claims.judge(&self.ring.state)
+        self.claims.judge(&self.ring.state)?;
+        let rest = self.ring.at_rest(&self.claims, self.reached);
+        rest.map_or(Ok(()), |mut rest| rest.look(generator))
     }
 
     /// 'Whatever waits can be delivered': after a route the latest message, and any.

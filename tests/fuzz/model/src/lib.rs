@@ -104,6 +104,28 @@ pub unsafe extern "C" fn model_owner(
     )
 }
 
+/// `ring_roll` as the model has it.
+///
+/// # Safety
+/// As for `model_fresh`.
+#[no_mangle]
+pub unsafe extern "C" fn model_roll(
+    words: *const u8,
+    words_len: usize,
+    hub: u32,
+    roll: *mut u8,
+    roll_len: usize,
+    length: *mut u8,
+    length_len: usize,
+) -> u32 {
+    bytes::ring_roll(
+        from_raw_parts(words, words_len),
+        hub,
+        from_raw_parts_mut(roll, roll_len),
+        from_raw_parts_mut(length, length_len),
+    )
+}
+
 /// `ring_fresh_cards` as the model has it.
 ///
 /// # Safety
