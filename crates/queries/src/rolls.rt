@@ -11,9 +11,9 @@ use protocol::form::NONE;
 use record::row_of;
 use routing::in_ring;
 
-// Whether following succ from a node on comes back to the start, where at most so many nodes are left to pass; those that are passed go behind those
-// that were passed before. (The call of itself is the last thing that it does, so the compiler makes a loop of it. That is tried in tests/c/run, since
-// the C calls' stack rests on it.)
+// Whether following succ from a node on comes back to the start, where at most so many nodes are left to pass. They go behind those that were passed
+// before. (It ends by calling itself, and the compiler makes a loop of that: the stack that include/ring.h promises rests on it, and tests/c/run looks
+// for functions that call themselves.)
 fn comes_back(w: &[u32], start: u32, left: u32, node: u32, passed: &mut ArrayVec<u32, 64>) -> bool
     requires { (Valid w.now) × (length passed.old.items + left ≤ most_nodes) }
     ensures { prepended passed.old.items (roll (read w.now) start left node) ≡ gathered passed.new.items result }
@@ -32,8 +32,8 @@ fn comes_back(w: &[u32], start: u32, left: u32, node: u32, passed: &mut ArrayVec
     comes_back(w, start, left - 1, next, passed)
 }
 
-// The nodes around the ring from a node on, each time one that succ leads to: 'hub below n? 4. State 2 to 4? 5. Does following succ come back to the
-// start after at most n hubs? 16.' What a roll call leaves in any output, of words or of bytes, follows.
+// The nodes around the ring from a node on: 'hub below n? 4. State 2 to 4? 5. Does following succ come back to the start after at most n hubs .. ? 16.'
+// By them it is known what a roll call leaves in any output, of words or of bytes.
 pub fn around(w: &[u32], node: u32) -> Result<ArrayVec<u32, 64>, Refusal>
     ensures { (out : List ℕ) → roll_call w.now node out ≡ handed out result }
 {
