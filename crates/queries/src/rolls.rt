@@ -32,8 +32,8 @@ fn comes_back(w: &[u32], start: u32, left: u32, node: u32, passed: &mut ArrayVec
     comes_back(w, start, left - 1, next, passed)
 }
 
-// The nodes around the ring from a node on: 'hub below n? 4. State 2 to 4? 5. Does following succ come back to the start after at most n hubs .. ? 16.'
-// By them it is known what a roll call leaves in any output, of words or of bytes.
+// The nodes around the ring from a node on. Refused where there is no such node (4), where it is not in the ring (5), and where succ does not lead back to
+// it within as many nodes as there are (16). By them it is known what a roll call leaves in any output, of words or of bytes.
 pub fn around(w: &[u32], node: u32) -> Result<ArrayVec<u32, 64>, Refusal>
     ensures { (out : List ℕ) → roll_call w.now node out ≡ handed out result }
 {

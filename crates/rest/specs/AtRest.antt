@@ -21,7 +21,7 @@ Rests w = messages_in w ≡ 0
 abbrev pub ledger : ℕ → List Event → List ℕ
 ledger founder events = members_after (founding_members founder) events
 
--- 'The roll from any ledger member has exactly the ledger's members, each one time, clockwise from the start.'
+-- Who is called from a member of the ledger: all its members and nobody else, none twice, in the order in which one meets them going clockwise.
 pub record RollIsRing (ids members w : List ℕ) (start : ℕ) : Type 0 where
   -- following succ comes back to the start, and passes these hubs
   pub list : List ℕ
@@ -41,7 +41,7 @@ pub record RollIsRing (ids members w : List ℕ) (start : ℕ) : Type 0 where
   pub no_room : (out : List ℕ) → length out < length list → roll_call w start out ≡ unrolled out OutputShort
   pub few : length list ≤ length ids
 
--- 'The owner query then never gives 15': it gives the ledger's owner.
+-- No number is without a holder (15): the owner query gives the ledger's owner.
 pub record OwnerIsLedgers (ids members w : List ℕ) (v : ℕ) : Type 0 where
   pub hub : ℕ
   pub call : owner_call w v ≡ Ok hub

@@ -1,6 +1,6 @@
-//! A ring at rest (document 02, 2026-07): where no message waits, 'the roll
-//! from any ledger member has exactly the ledger's members, each one time,
-//! clockwise from the start. The owner query then never gives 15.'
+//! A ring at rest (document 02, 2026-07): where no message waits, a roll
+//! called from a member lists the whole ledger and nobody else, none twice and
+//! in clockwise order; and every key has the ledger's owner as its holder.
 
 use crate::clockwise::distance;
 use crate::ledger::Membership;

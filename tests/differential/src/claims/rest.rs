@@ -19,8 +19,8 @@ impl Claims {
         all.filter(|(place, _)| self.members >> place & 1 == 1).map(|(_, &node)| node).collect()
     }
 
-    /// 'The roll from any ledger member has exactly the ledger's members, each one time, clockwise
-    /// from the start.'
+    /// What a roll from a member came to: it must list the whole ledger in clockwise order, each
+    /// member once and nobody else.
     pub fn judge_roll(&self, start: u32, roll: &Result<Vec<u32>, u32>) -> Result<(), String> {
         let mut should = self.in_order();
         let Some(place) = should.iter().position(|&node| node == start) else {
@@ -33,7 +33,7 @@ impl Claims {
         Err(format!("at rest the roll from {start} is {roll:?}, by the ledger {should:?}"))
     }
 
-    /// 'The owner query then never gives 15': it names the ledger's owner.
+    /// Who is said to own a key: it must be the ledger's owner, and never nobody (15).
     pub fn judge_owner(&self, key: u32, owner: Result<u32, u32>) -> Result<(), String> {
         let should = self.owner(key);
         if should.is_some() && owner.ok() == should {
