@@ -171,9 +171,9 @@ uint32_t ring_owner(const uint8_t *words, size_t words_len, uint32_t number, uin
  *   roll, roll_len      gets the hubs, a word each; RING_ROLL_BYTES bytes are always enough. Bytes behind the roll stay as they are
  *   length, length_len  gets how many hubs the roll has, as one word in RING_LENGTH_BYTES bytes; bytes behind it stay as they are
  *
- * Where the record comes from a fresh call and steps, and no message waits, the roll is the list of the depots in service, each one time, clockwise
- * from the hub on. How many messages wait is ring_word(words, 2). While any waits, the roll is no such list: a depot that enters or goes may be
- * missing or still be in it, and from one that enters there may be no way round.
+ * Where the record comes from a fresh call and steps, and no message waits, the roll says which depots are in service: all of them, each once, going
+ * clockwise from the hub on. How many messages wait is ring_word(words, 2). While any waits, the roll is no such list: a depot that enters or goes may be
+ * missing or still be in it, and from such a depot there may be no way round.
  *
  * Returns RING_OK, RING_OUTPUT_SHORT (for length), RING_RECORD_SHORT, RING_NOT_WELL_FORMED, RING_NO_HUB, RING_NOT_IN_RING, RING_NO_WAY_ROUND or
  * RING_OUTPUT_SHORT (for roll), in this order.

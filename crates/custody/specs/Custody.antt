@@ -1,6 +1,6 @@
 -- 2026-04, stated: what is claimed of every list of steps with cards, offers and (2026-06) routes, from every card slice that was made with its
--- ring. Its proof is `custody` in proofs/Theorem.antt. It cites the definitions of `protocol`, those of demand 3 (Demand3.antt), and these few about
--- lists of the three calls.
+-- ring. Its proof is `custody` in proofs/Theorem.antt. It cites the definitions of `protocol`, those of demand 3 (Demand3.antt) and of a ring at rest
+-- (AtRest.antt), and these few about lists of the three calls.
 -- (From `lists`: Mem, being an element; All, of each element.)
 use Rattle.std.specs.Prelude.{◌≡◌, List, [], ◌∷◌, ◌++◌, map, ℕ, ◌+◌, ◌<◌, nat_eq, get_or}
 use Rattle.lists.specs.Basics.{when◌then◌else◌, Mem, All}

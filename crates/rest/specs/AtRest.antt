@@ -26,10 +26,10 @@ pub record RollIsRing (ids members w : List ℕ) (start : ℕ) : Type 0 where
   -- following succ comes back to the start, and passes these hubs
   pub list : List ℕ
   pub closes : roll (read w) start (count_in w) start ≡ complete list
-  -- exactly the ledger's members
+  -- of the ledger, and no others; and all of it
   pub members_only : (hub : ℕ) → Mem hub list → Mem hub members
   pub all_members : (hub : ℕ) → Mem hub members → Mem hub list
-  -- each one time
+  -- none twice
   pub once : (hub : ℕ) → times list hub ≤ 1
   -- the start comes first, and what comes later is further clockwise from it
   pub starts : get_or list 0 none ≡ start
