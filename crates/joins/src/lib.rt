@@ -47,7 +47,7 @@ fn join_routed(h: Row, m: Message, way: Route) -> Decision
 pub fn join(p: u32, h: Row, g: Row, m: Message) -> Result<Decision, Refusal>
     ensures { result ≡ join_spec p h g m }
 {
-    required(g.state == states::JOINING)?;
+    required(matches!(g.state, states::JOINING))?;
     if matches!(h.state, states::OUTSIDE | states::JOINING) {
         return Ok(join_retried(h, m));
     }
@@ -59,7 +59,7 @@ pub fn join(p: u32, h: Row, g: Row, m: Message) -> Result<Decision, Refusal>
 pub fn join_retry(h: Row, m: Message) -> Result<Decision, Refusal>
     ensures { result ≡ join_retry h m }
 {
-    required(h.state == states::JOINING)?;
+    required(matches!(h.state, states::JOINING))?;
     let outside = Row {
         state: states::OUTSIDE,
         lock: 0,
@@ -72,7 +72,7 @@ pub fn join_retry(h: Row, m: Message) -> Result<Decision, Refusal>
 pub fn join_point(h: Row, m: Message) -> Result<Decision, Refusal>
     ensures { result ≡ join_point h m }
 {
-    required(h.state == states::JOINING)?;
+    required(matches!(h.state, states::JOINING))?;
     let inside = Row {
         state: states::INSIDE,
         pred: m.a,

@@ -29,7 +29,7 @@ pub fn leave_req(h: Row, m: Message) -> Result<Decision, Refusal>
 pub fn leave_retry(h: Row, m: Message) -> Result<Decision, Refusal>
     ensures { result ≡ leave_retry h m }
 {
-    required(h.state == states::WANTING_TO_LEAVE)?;
+    required(matches!(h.state, states::WANTING_TO_LEAVE))?;
     let staying = Row {
         state: states::INSIDE,
         lock: 0,
@@ -42,7 +42,7 @@ pub fn leave_retry(h: Row, m: Message) -> Result<Decision, Refusal>
 pub fn leave_grant(h: Row, m: Message) -> Result<Decision, Refusal>
     ensures { result ≡ leave_grant h m }
 {
-    required(h.state == states::WANTING_TO_LEAVE)?;
+    required(matches!(h.state, states::WANTING_TO_LEAVE))?;
     let leaving = Row {
         state: states::LEAVING,
         ..h
@@ -58,7 +58,7 @@ pub fn leave_grant(h: Row, m: Message) -> Result<Decision, Refusal>
 pub fn leave_point(h: Row, m: Message) -> Result<Decision, Refusal>
     ensures { result ≡ leave_point h m }
 {
-    required(h.state == states::INSIDE && h.lock == 1)?;
+    required(matches!(h.state, states::INSIDE) && h.lock == 1)?;
     let extended = Row { pred: m.a, ..h };
     Ok(Decision::Send(
         extended,
@@ -78,7 +78,7 @@ pub fn update_succ(h: Row, m: Message) -> Result<Decision, Refusal>
 pub fn stop_forward(h: Row, m: Message) -> Result<Decision, Refusal>
     ensures { result ≡ stop_forward h m }
 {
-    required(h.state == states::LEAVING)?;
+    required(matches!(h.state, states::LEAVING))?;
     let outside = Row {
         state: states::OUTSIDE,
         lock: 0,

@@ -25,7 +25,7 @@ pub fn required(test: bool) -> Result<(), Refusal>
 pub fn unlocked(h: Row, answer: Answer) -> Result<Decision, Refusal>
     ensures { result ≡ (when nat_eq h.state INSIDE && nat_eq h.lock 1 && nat_eq h.flag 0 then Ok (Reply (with_lock h 0) answer) else Err NotExpected) }
 {
-    required(h.state == states::INSIDE && h.lock == 1 && h.flag == 0)?;
+    required(matches!(h.state, states::INSIDE) && h.lock == 1 && h.flag == 0)?;
     Ok(Decision::Reply(Row { lock: 0, ..h }, answer))
 }
 

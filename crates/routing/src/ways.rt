@@ -17,10 +17,11 @@ pub fn covers(p: u32, h: Row, v: u32) -> bool
 pub fn onward(p: u32, h: Row, v: u32) -> Route
     ensures { result ≡ onward_spec p h v }
 {
-    if h.state != states::LEAVING && covers(p, h, v) {
-        return Route::Own;
+    match h.state {
+        states::LEAVING => Route::To(h.succ),
+        _ if covers(p, h, v) => Route::Own,
+        _ => Route::To(h.succ),
     }
-    Route::To(h.succ)
 }
 
 // 'if the flag is set and the sender is oldpred, send on to pred. Else ..' Only oldpred still takes t

@@ -4,10 +4,14 @@ use Rattle.lists.specs.Basics.{when◌then◌else◌}
 use Rattle.protocol.specs.Routing.{onward}
 use Rattle.routing.proofs.ways.onward.Goals as goal
 
-pub returns-then-covers : goal.returns-then-covers
+pub returns-in-4 : goal.returns-in-4
 unfolding onward when◌then◌else◌
-returns-then-covers c = grind arith
+returns-in-4 c = grind arith
 
-pub returns : goal.returns
+pub returns-in_default : goal.returns-in_default
 unfolding onward when◌then◌else◌
-returns c = grind arith
+returns-in_default c = grind arith
+
+pub returns-in_default-2 : goal.returns-in_default-2
+unfolding onward when◌then◌else◌
+returns-in_default-2 c = grind arith
