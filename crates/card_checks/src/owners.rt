@@ -24,15 +24,18 @@ pub(crate) fn gap(a: u32, b: u32) -> u32
 }
 
 // The least of what `far` says of the marked nodes' identifiers, and of 2^32 - 1. (Nodes without a mark have 2^32 - 1, so that the loop has no
-// branch, and is vectorised. Two slices: a struct of both as the parameter of `reach` and `nearest` is a narrower type, which asks more of callers.)
+// branch, and is vectorised, which a fold over marks and names side by side is not. Two slices: a struct of both as the parameter of `reach` and
+// `nearest` is a narrower type, which asks more of callers.)
 fn least<F: Fn(u32) -> u32>(names: &[u32], marks: &[u32], far: F) -> u32
     requires callable { F.IsAlwaysCallable far }
     requires long { length marks.now ≤ length names.now }
     ensures { (h : ℕ → ℕ) → ((x y : ℕ) → F.post far x y → y ≡ h x) → result ≡ least (λ m. when nat_eq (get_or marks.now m 0) 1 then h (get_or names.now m 0) else top) (length marks.now) }
 {
-    marks.iter().zip(names).fold(TOP, |best, (mark, name)| {
-        best.min(pick(*mark == 1, far(*name), TOP))
-    })
+    let mut best = TOP;
+    for m in 0..marks.len() {
+        best = best.min(pick(marks[m] == 1, far(names[m]), TOP));
+    }
+    best
 }
 
 // How far node h's numbers reach back among the marked nodes.

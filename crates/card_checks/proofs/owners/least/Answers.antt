@@ -1,20 +1,22 @@
--- `least`: the least of the pairs, one by one. Assumes nothing.
-use mathlib.Core.Path.{◌∙◌}
-use Prim.Native.Nat.{ℕ}
-use borrow.Author.Rules.{rules}
-use Rattle.std.specs.Prelude.{nat_eq, min}
-use Rattle.std.proofs.lemmas.Iterator.{YieldsList-from_slice, YieldsList-from_zip}
-use Rattle.std.proofs.lemmas.Iterator.Consumers.{fold_from_yields_List}
+-- `least`: the least of the nodes so far. Assumes nothing.
+use Rattle.std.proofs.Common.{arith, ◌≡◌, ◌∙◌, ap, sym, nat_eq, length, get_or}
 use Rattle.lists.specs.Basics.{when◌then◌else◌}
-use Rattle.cardlayout.specs.Reach.{top}
-use Rattle.card_checks.specs.Homes.{least_pairs}
+use Rattle.cardlayout.specs.Reach.{top, least, least_none}
+use Rattle.card_checks.specs.Homes.{least_next}
 use Rattle.card_checks.proofs.owners.least.Goals as goal
 
-pub returns : goal.returns
-returns g c = let names = c.args.names.now in
-    let marks = c.args.marks.now in
+pub loop-m-init : goal.loop-m-init
+loop-m-init g c = λ h p. sym (least_none _)
+
+pub loop-m-preserved : goal.loop-m-preserved
+loop-m-preserved g c = let l = c.loop-m in
     λ h p.
-    fold_from_yields_List _ (λ (a : ℕ) (x : ℕ × ℕ). min a (when nat_eq x.0 1 then h x.1 else top)) top c.fold.result c.fold.ensures.ran
-    (YieldsList-from_zip (YieldsList-from_slice marks (cc)) (YieldsList-from_slice names (cc)))
-    (λ a x b q k. search (rules, p))
-    ∙ least_pairs h marks names c.requires.long
+    c.min-best.ensures
+    ∙ least_next (λ m. when nat_eq (get_or c.args.marks.now m 0) 1 then h (get_or c.args.names.now m 0) else top) l.m _ _ (l.invariant h p)
+    (c.pick.ensures ∙ ap (λ z. when nat_eq (get_or c.args.marks.now l.m 0) 1 then z else top) (p _ _ c.far.ensures))
+
+pub returns : goal.returns
+returns g c = let l = c.loop-m in
+    λ h p.
+    let e : l.m ≡ length c.args.marks.now = omega arith in
+    l.invariant h p ∙ ap (least (λ m. when nat_eq (get_or c.args.marks.now m 0) 1 then h (get_or c.args.names.now m 0) else top)) e
