@@ -1,4 +1,4 @@
-// The calls that lend the cards too, on bytes.
+// The calls that lend the cards too, on bytes. Both are long enough before either is loaded: a refusal by 1 carries no word.
 ghost use Rattle.std.specs.Prelude.{◌≡◌};
 ghost use Rattle.protocol.specs.Fresh.{founder_of};
 ghost use Rattle.protocol.specs.Bytes.{words_of};
@@ -9,7 +9,7 @@ use protocol::Refusal;
 use protocol::form::{
     ANSWER_BYTES, ANSWER_WORDS, BOOK_BYTES, BOOK_WORDS, RECORD_BYTES, RECORD_WORDS,
 };
-use word_bytes::{Words, checked, save};
+use word_bytes::{Words, checked, loaded, save};
 
 // One command on the record in the lent bytes, with the cards in others. Only the first words of both are loaded: a step looks at nothing behind them.
 pub fn step(
@@ -25,8 +25,11 @@ pub fn step(
     if out.len() < ANSWER_BYTES {
         return Err(Refusal::OutputShort);
     }
-    let mut w = checked::<RECORD_WORDS>(words)?;
+    if words.len() < RECORD_BYTES {
+        return Err(Refusal::RecordShort);
+    }
     let mut k = checked::<BOOK_WORDS>(book)?;
+    let mut w = loaded::<RECORD_WORDS>(words);
     let a = cards::step(&mut w, &mut k, operation, x, y)?;
     save(words, &w);
     save(book, &k);
@@ -44,14 +47,18 @@ pub fn offer(
 ) -> Result<(), Refusal>
     ensures { offer_bytes words.now book.old machine revision price ≡ record { code = refusal result; book = book.new } }
 {
-    let w = checked::<RECORD_WORDS>(words)?;
+    if words.len() < RECORD_BYTES {
+        return Err(Refusal::RecordShort);
+    }
     let mut k = checked::<BOOK_WORDS>(book)?;
+    let w = loaded::<RECORD_WORDS>(words);
     card_offers::offer(&w, &mut k, machine, revision, price)?;
     save(book, &k);
     Ok(())
 }
 
-// A ring founded in the lent bytes with its card slice, whoever is to found it. Neither is loaded, since an accepted call writes both whole.
+// A ring founded in the lent bytes with its card slice, whoever is to found it. Neither is loaded, since an accepted call writes both whole. (`let .. else`
+// for the reason that record_bytes' `fresh` has: the record's words are cleared once. The cards' are cleared twice.)
 pub fn fresh(
     words: &mut [u8],
     book: &mut [u8],
@@ -66,7 +73,9 @@ pub fn fresh(
     if book.len() < BOOK_BYTES {
         return Err(Refusal::RecordShort);
     }
-    let ids = Words::<64>::of(identifiers).ok_or(Refusal::IdentifierCount)?;
+    let Some(ids) = Words::<64>::of(identifiers) else {
+        return Err(Refusal::IdentifierCount);
+    };
     let mut w = [0u32; RECORD_WORDS];
     let mut k = [0u32; BOOK_WORDS];
     cards::fresh(&mut w, &mut k, ids.as_slice(), founder)?;

@@ -8,14 +8,17 @@ use protocol::Refusal;
 use protocol::form::{RECORD_BYTES, RECORD_WORDS};
 use word_bytes::{Words, save};
 
-// The lent bytes are not loaded, since an accepted call writes the whole record.
+// The lent bytes are not loaded, since an accepted call writes the whole record. (`let .. else` and no `ok_or` with `?`, which copies the identifiers once
+// more: with that the compiler did not see that founding clears the words which begin as 0 here, and cleared them twice.)
 pub fn fresh(words: &mut [u8], identifiers: &[u8], founder: Option<u32>) -> Result<(), Refusal>
     ensures { fresh_by_bytes words.old identifiers.now (founder_of founder (words_of identifiers.now)) ≡ record { code = refusal result; bytes = words.new } }
 {
     if words.len() < RECORD_BYTES {
         return Err(Refusal::RecordShort);
     }
-    let ids = Words::<64>::of(identifiers).ok_or(Refusal::IdentifierCount)?;
+    let Some(ids) = Words::<64>::of(identifiers) else {
+        return Err(Refusal::IdentifierCount);
+    };
     let mut w = [0u32; RECORD_WORDS];
     founding::fresh(&mut w, ids.as_slice(), founder)?;
     save(words, &w);

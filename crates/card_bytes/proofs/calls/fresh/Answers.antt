@@ -6,13 +6,11 @@ use Rattle.protocol.specs.Answers.{refusal}
 use Prim.Native.Nat.{ℕ}
 use native.Mathlib.Omega.{arith}
 use lib.ListN.{replicate, length-replicate}
-use Rattle.protocol.specs.declared.refusal.Refusal.TheVariants.{IdentifierCount}
 use Rattle.protocol.specs.Fresh.{founder_of}
 use Rattle.protocol.specs.Bytes.{words_of, bytes_after}
 use Rattle.protocol.specs.Cards.{fresh_by_cards}
 use Rattle.protocol.specs.CardBytes.{founded_cards}
 use Rattle.word_bytes.specs.Carry.{words_all}
-use Rattle.word_bytes.specs.Counted.{all_came, too_many}
 use Rattle.card_bytes.specs.Results.{fresh_cards_1, fresh_cards_short, fresh_cards_13, fresh_cards_rest}
 use Rattle.card_bytes.proofs.calls.fresh.Goals as goal
 
@@ -26,22 +24,19 @@ unfolding refusal
 returns-then-book-lt-BOOK_BYTES c =
     let a = c.args in fresh_cards_short a.words.now a.book.now a.identifiers.now (founder_of a.founder (words_of a.identifiers.now)) (omega arith) (omega arith)
 
-pub returns-in_err-ids : goal.returns-in_err-ids
+pub returns-in_default : goal.returns-in_default
 unfolding refusal
-returns-in_err-ids c =
+returns-in_default c =
     let a = c.args in
-    let refused = err_from_is_err_and c.from_residual.result c.from_residual.ensures.1 in
-    let many = too_many 64 a.identifiers.now IdentifierCount c.of.result _ c.of.ensures c.in_err-ids.ensures.value in
-    fresh_cards_13 a.words.now a.book.now a.identifiers.now (founder_of a.founder (words_of a.identifiers.now)) (omega arith) (omega arith) (omega (arith, many.1))
-    ∙ rw (refused.1, refused.2, many.0) refl
+    fresh_cards_13 a.words.now a.book.now a.identifiers.now (founder_of a.founder (words_of a.identifiers.now)) (omega arith) (omega arith) (omega (arith, c.in_default.ensures))
 
 pub returns-in_err-fresh : goal.returns-in_err-fresh
 unfolding founded_cards refusal bytes_after
 returns-in_err-fresh c =
     let a = c.args in
     let ids = a.identifiers.now in
-    let came = all_came 64 ids IdentifierCount c.of.result c.in_ok-ids.ids c.of.ensures c.in_ok-ids.ensures.value in
-    let refused = err_from_is_err_and c.from_residual-in_err-fresh.result c.from_residual-in_err-fresh.ensures.1 in
+    let came = c.in-Some.ensures in
+    let refused = err_from_is_err_and c.from_residual.result c.from_residual.ensures.1 in
     fresh_cards_rest a.words.now a.book.now ids (founder_of a.founder (words_of ids)) (omega arith) (omega arith) (replicate 1988 0) (replicate 2113 0) (length-replicate {A = ℕ} 1988 0) (length-replicate {A = ℕ} 2113 0) _ _ _
     (ap (λ i. fresh_by_cards (replicate 1988 0) (replicate 2113 0) i (founder_of a.founder (words_of ids))) (sym (words_all ids)) ∙ rw (c.as_slice.ensures, came.0) at c.in_err-fresh.ensures)
     ∙ rw (refused.1, refused.2) refl
@@ -51,7 +46,7 @@ unfolding founded_cards refusal bytes_after
 returns c =
     let a = c.args in
     let ids = a.identifiers.now in
-    let came = all_came 64 ids IdentifierCount c.of.result c.in_ok-ids.ids c.of.ensures c.in_ok-ids.ensures.value in
+    let came = c.in-Some.ensures in
     fresh_cards_rest a.words.now a.book.now ids (founder_of a.founder (words_of ids)) (omega arith) (omega arith) (replicate 1988 0) (replicate 2113 0) (length-replicate {A = ℕ} 1988 0) (length-replicate {A = ℕ} 2113 0) _ _ _
     (ap (λ i. fresh_by_cards (replicate 1988 0) (replicate 2113 0) i (founder_of a.founder (words_of ids))) (sym (words_all ids)) ∙ rw (c.as_slice.ensures, came.0) at c.in_ok-fresh.ensures)
     ∙ simp (c.save.ensures, c.save-2.ensures)

@@ -8,19 +8,16 @@ use native.Mathlib.Omega.{arith}
 use Rattle.card_bytes.specs.Results.{offer_1, offer_short, offer_rest}
 use Rattle.card_bytes.proofs.calls.offer.Goals as goal
 
-pub returns-in_err-w : goal.returns-in_err-w
+pub returns-then-words-lt-RECORD_BYTES : goal.returns-then-words-lt-RECORD_BYTES
 unfolding refusal
-returns-in_err-w c =
-    let a = c.args in
-    let refused = err_from_is_err_and c.from_residual.result c.from_residual.ensures.1 in
-    offer_1 a.words.now a.book.now a.machine a.revision a.price (omega (arith, c.in_err-w.ensures.1)) ∙ rw (refused.1, refused.2, c.in_err-w.ensures.0) refl
+returns-then-words-lt-RECORD_BYTES c = let a = c.args in offer_1 a.words.now a.book.now a.machine a.revision a.price (omega arith)
 
 pub returns-in_err-k : goal.returns-in_err-k
 unfolding refusal
 returns-in_err-k c =
     let a = c.args in
-    let refused = err_from_is_err_and c.from_residual-in_err-k.result c.from_residual-in_err-k.ensures.1 in
-    offer_short a.words.now a.book.now a.machine a.revision a.price (omega (arith, c.in_ok-w.ensures.1)) (omega (arith, c.in_err-k.ensures.1))
+    let refused = err_from_is_err_and c.from_residual.result c.from_residual.ensures.1 in
+    offer_short a.words.now a.book.now a.machine a.revision a.price (omega arith) (omega (arith, c.in_err-k.ensures.1))
     ∙ rw (refused.1, refused.2, c.in_err-k.ensures.0) refl
 
 pub returns-in_err-offer : goal.returns-in_err-offer
@@ -28,14 +25,14 @@ unfolding taken refusal bytes_after
 returns-in_err-offer c =
     let a = c.args in
     let refused = err_from_is_err_and c.from_residual-in_err-offer.result c.from_residual-in_err-offer.ensures.1 in
-    offer_rest a.words.now a.book.now a.machine a.revision a.price (omega (arith, c.in_ok-w.ensures.1)) (omega (arith, c.in_ok-k.ensures.1)) _ _ _
-    (rw (c.in_ok-w.ensures.0, c.in_ok-k.ensures.0) at c.in_err-offer.ensures)
+    offer_rest a.words.now a.book.now a.machine a.revision a.price (omega arith) (omega (arith, c.in_ok-k.ensures.1)) _ _ _
+    (rw (c.loaded-w.ensures, c.in_ok-k.ensures.0) at c.in_err-offer.ensures)
     ∙ rw (refused.1, refused.2) refl
 
 pub returns : goal.returns
 unfolding taken refusal bytes_after
 returns c =
     let a = c.args in
-    offer_rest a.words.now a.book.now a.machine a.revision a.price (omega (arith, c.in_ok-w.ensures.1)) (omega (arith, c.in_ok-k.ensures.1)) _ _ _
-    (rw (c.in_ok-w.ensures.0, c.in_ok-k.ensures.0) at c.in_ok-offer.ensures)
+    offer_rest a.words.now a.book.now a.machine a.revision a.price (omega arith) (omega (arith, c.in_ok-k.ensures.1)) _ _ _
+    (rw (c.loaded-w.ensures, c.in_ok-k.ensures.0) at c.in_ok-offer.ensures)
     ∙ simp c.save.ensures

@@ -8,9 +8,7 @@ use native.Mathlib.Omega.{arith}
 use Rattle.lists.specs.Basics.{All}
 use Rattle.lists.specs.Members.{all_at}
 use Rattle.std.proofs.lemmas.Result.{err_from_is_err_and}
-use Rattle.protocol.specs.declared.refusal.Refusal.TheVariants.{IdentifierCount}
 use Rattle.word_bytes.specs.Carry.{words_all}
-use Rattle.word_bytes.specs.Counted.{all_came, too_many}
 use Rattle.protocol.specs.Fresh.{founder_of}
 use Rattle.protocol.specs.Calls.{fresh_by_call}
 use Rattle.record_bytes.specs.Results.{fresh_1, fresh_13, fresh_rest}
@@ -23,14 +21,11 @@ returns-then-words-lt-RECORD_BYTES c =
     let a = c.args in
     fresh_1 a.words.now a.identifiers.now (founder_of a.founder (words_of a.identifiers.now)) (omega arith)
 
-pub returns-in_err-ids : goal.returns-in_err-ids
+pub returns-in_default : goal.returns-in_default
 unfolding refusal
-returns-in_err-ids c =
+returns-in_default c =
     let a = c.args in
-    let refused = err_from_is_err_and c.from_residual.result c.from_residual.ensures.1 in
-    let many = too_many 64 a.identifiers.now IdentifierCount c.of.result _ c.of.ensures c.in_err-ids.ensures.value in
-    fresh_13 a.words.now a.identifiers.now (founder_of a.founder (words_of a.identifiers.now)) (omega arith) (omega (arith, many.1))
-    ∙ rw (refused.1, refused.2, many.0) refl
+    fresh_13 a.words.now a.identifiers.now (founder_of a.founder (words_of a.identifiers.now)) (omega arith) (omega (arith, c.in_default.ensures))
 
 pub returns-in_err-fresh : goal.returns-in_err-fresh
 unfolding fresh_carried refusal bytes_after
@@ -39,8 +34,8 @@ returns-in_err-fresh c =
     let b = a.words.now in
     let bytes : All Byte b = all_at Byte b 0 (λ i h. omega (arith, c.slice_known-1.given i)) in
     let ids = a.identifiers.now in
-    let came = all_came 64 ids IdentifierCount c.of.result c.in_ok-ids.ids c.of.ensures c.in_ok-ids.ensures.value in
-    let refused = err_from_is_err_and c.from_residual-in_err-fresh.result c.from_residual-in_err-fresh.ensures.1 in
+    let came = c.in-Some.ensures in
+    let refused = err_from_is_err_and c.from_residual.result c.from_residual.ensures.1 in
     fresh_rest b ids (founder_of a.founder (words_of ids)) bytes (omega arith) came.1 (replicate 1988 0) (length-replicate {A = ℕ} 1988 0) _ _
     (ap (λ i. fresh_by_call (replicate 1988 0) i (founder_of a.founder (words_of ids))) (sym (words_all ids)) ∙ rw (c.as_slice.ensures, came.0) at c.in_err-fresh.ensures)
     ∙ rw (refused.1, refused.2) refl
@@ -52,7 +47,7 @@ returns c =
     let b = a.words.now in
     let bytes : All Byte b = all_at Byte b 0 (λ i h. omega (arith, c.slice_known-1.given i)) in
     let ids = a.identifiers.now in
-    let came = all_came 64 ids IdentifierCount c.of.result c.in_ok-ids.ids c.of.ensures c.in_ok-ids.ensures.value in
+    let came = c.in-Some.ensures in
     fresh_rest b ids (founder_of a.founder (words_of ids)) bytes (omega arith) came.1 (replicate 1988 0) (length-replicate {A = ℕ} 1988 0) _ _
     (ap (λ i. fresh_by_call (replicate 1988 0) i (founder_of a.founder (words_of ids))) (sym (words_all ids)) ∙ rw (c.as_slice.ensures, came.0) at c.in_ok-fresh.ensures)
     ∙ simp c.save.ensures
