@@ -36,13 +36,34 @@ pub const UNWRITTEN: u32 = u32::MAX;
 #[derive(Clone, Copy)]
 pub struct Places<'a>(pub &'a [u32]);
 
+#[derive(Clone, Copy)]
+struct Place(u32);
+
+impl fmt::Display for Place {
+    fn fmt<W: fmt::Write>(&self, f: &mut fmt::Formatter<W>) -> fmt::Result {
+        match self.0 {
+            UNWRITTEN => f.write_str(" -"),
+            written => write!(f, " {written}"),
+        }
+    }
+}
+
+// Eight places that nothing was written into go out as one text: a long output of a short roll has little else, and place by place it took 1.7 times as
+// long as byte by byte.
 impl fmt::Display for Places<'_> {
     fn fmt<W: fmt::Write>(&self, f: &mut fmt::Formatter<W>) -> fmt::Result {
-        for hub in self.0 {
-            match *hub {
-                UNWRITTEN => write!(f, " -")?,
-                written => write!(f, " {written}")?,
+        let (eights, rest) = self.0.as_chunks::<8>();
+        for eight in eights {
+            if eight.iter().all(|hub| *hub == UNWRITTEN) {
+                f.write_str(" - - - - - - - -")?;
+                continue;
             }
+            for hub in eight {
+                write!(f, "{}", Place(*hub))?;
+            }
+        }
+        for hub in rest {
+            write!(f, "{}", Place(*hub))?;
         }
         Ok(())
     }
