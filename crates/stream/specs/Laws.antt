@@ -27,6 +27,12 @@ pub answered : (n : ℕ) (w l after out text : List ℕ) → line_call w l ≡ r
 unfolding line_ended
 answered n w l after out text called room = rw (called, all_fits n out text room)
 
+-- the answer to a line stands behind what was printed before it
+pub answer_behind : (w l after out text : List ℕ) → line_call w l ≡ record { printed = text; slice = after }
+    → line_ended (record { slice = w; begun = l; printed = out }) ≡ record { slice = after; begun = []; printed = out ++ text }
+unfolding line_ended
+answer_behind w l after out text called = rw called refl
+
 -- A line is gathered up to its LF and then ends; or the input ends first.
 unfoldable resumed : Standing → Gathering → Standing
 resumed s g = when g.ended then line_ended (record { slice = s.slice; begun = g.part; printed = s.printed }) else record { slice = s.slice; begun = g.part; printed = s.printed }

@@ -1,5 +1,5 @@
 // The bytes of a read, line by line.
-ghost use Rattle.std.specs.Prelude.{◌≡◌, [], ◌*◌, ◌≤◌, length};
+ghost use Rattle.std.specs.Prelude.{◌≡◌, [], ◌*◌, ◌≤◌, length, take, drop};
 ghost use Rattle.protocol.specs.Ringrun.{ended};
 ghost use Rattle.stream.specs.Pieces.{taken};
 
@@ -9,34 +9,34 @@ use texts::Text;
 // What is kept of a line: one byte more than a frame can have.
 pub const KEPT: usize = 515;
 
-// The bytes of one read: every line that ends in them is answered, and the answers are all that is held then, whatever was held before. Each byte can
-// end a line, and an answer has at most 25 bytes.
-pub fn take_bytes<const OUT: usize>(
-    w: &mut [u32],
-    line: &mut Text<KEPT>,
-    out: &mut Text<OUT>,
-    input: &[u8],
-)
-    requires { 25 * length input.now ≤ OUT }
-    ensures { taken w.old line.old input.now ≡ record { slice = w.new; begun = line.new; printed = out.new } }
+// The bytes of one read: every line that ends in them is answered, and the answers stand at the front of the block; how many bytes they have is
+// returned. Each byte can end a line, and an answer has at most 25 bytes. (A slice and that count, and no `Text`: its room would be fixed when the caller
+// is compiled, which asks more than a slice that is long enough.)
+pub fn take_bytes(w: &mut [u32], line: &mut Text<KEPT>, out: &mut [u8], input: &[u8]) -> usize
+    requires { 25 * length input.now ≤ length out.old }
+    ensures taken { taken w.old line.old input.now ≡ record { slice = w.new; begun = line.new; printed = take result out.new } }
+    ensures few { result ≤ length out.old }
+    ensures behind { drop result out.new ≡ drop result out.old }
 {
-    out.clear();
+    let mut waiting = 0;
     let mut left = input;
     while let Some(rest) = line.gather(left) {
-        answer(w, line.as_slice(), out);
+        waiting = answer(w, line.as_slice(), out, waiting);
         line.clear();
         left = rest;
     }
+    waiting
 }
 
 // The end of the input. The last line may lack its LF; where the input ends with LF, or is empty, there is none.
-pub fn finish<const OUT: usize>(w: &mut [u32], line: &[u8], out: &mut Text<OUT>)
-    requires { 25 ≤ OUT }
-    ensures { ended (record { slice = w.old; begun = line.now; printed = [] }) ≡ record { slice = w.new; begun = []; printed = out.new } }
+pub fn finish(w: &mut [u32], line: &[u8], out: &mut [u8]) -> usize
+    requires { 25 ≤ length out.old }
+    ensures ended { ended (record { slice = w.old; begun = line.now; printed = [] }) ≡ record { slice = w.new; begun = []; printed = take result out.new } }
+    ensures few { result ≤ length out.old }
+    ensures behind { drop result out.new ≡ drop result out.old }
 {
-    out.clear();
     if line.len() == 0 {
-        return;
+        return 0;
     }
-    answer(w, line, out);
+    answer(w, line, out, 0)
 }
