@@ -36,10 +36,10 @@ impl Session {
     }
 
     fn step(&mut self, operation: u32, x: u32, y: u32) -> Result<Answer, Refusal> {
-        let mut tally = self.tally;
-        let stepped = tally::step(self.words_mut(), operation, x, y, &mut tally);
-        self.tally = tally;
-        stepped
+        let tally = self.tally;
+        let stepped = tally::lend(self.words_mut(), operation, x, y, tally);
+        self.tally = stepped.tally;
+        stepped.outcome
     }
 
     // The places of the output that are not asked for are not lent.

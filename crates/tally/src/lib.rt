@@ -2,7 +2,9 @@
 #![tactic(auto)]
 
 mod counts;
+mod lending;
 mod perform;
 
 pub use counts::{changed_at, counted, raised_at};
+pub use lending::{Tallied, lend};
 pub use perform::step;

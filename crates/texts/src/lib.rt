@@ -9,7 +9,7 @@ use std::fmt;
 use std::marker::Model;
 
 // The bytes of a text so far. The first N are kept and the rest is dropped, so that a line of any length costs no more than these.
-#[derive(Drop)]
+#[derive(Clone, Drop)]
 pub struct Text<const N: usize> {
     bytes: [u8; N],
     held: usize,
